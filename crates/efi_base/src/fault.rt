@@ -1,0 +1,26 @@
+//! Answers that say why a call gave no value. The refusals of drivers aren't here.
+
+/// No text of the grammar stands there.
+#[derive(Clone, Copy, PartialEq, Eq, Debug)]
+pub struct Bad;
+
+/// The text is longer than the room, which is as it was.
+#[derive(Clone, Copy, PartialEq, Eq, Debug)]
+pub struct NoRoom;
+
+/// There was no memory for the work.
+#[derive(Clone, Copy, PartialEq, Eq, Debug)]
+pub struct NoMemory;
+
+/// An object of the outside failed, and its count of faults rose.
+#[derive(Clone, Copy, PartialEq, Eq, Debug)]
+pub struct Failed;
+
+/// Why a sink took nothing.
+#[derive(Clone, Copy, PartialEq, Eq, Debug)]
+pub enum Miss {
+    /// It failed, and its count of faults rose.
+    Failed,
+    /// It stores what it takes, and there was no memory.
+    OutOfResources,
+}

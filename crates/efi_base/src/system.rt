@@ -1,0 +1,186 @@
+//! The trusted edge: standard input and output and a file, as sources and sinks that tell no octets. An error of
+//! the system, also an interruption, counts as one fault.
+ghost use Rattle.std.specs.Prelude.{◌≡◌, ◌<◌, ◌≤◌, None, length, IfOk, IfSome};
+ghost use Rattle.std.specs.Io.{ReadsAtMost, WritesAtMost};
+ghost use Rattle.std.specs.Io.KnownBytes.{ReadConsumes, WriteAppends};
+ghost use Rattle.efi_base.specs.Causes.{HasCause, HasMissCause};
+
+use crate::fault::{Failed, Miss};
+use crate::outside::{Sink, Source};
+use std::fs;
+use std::io::{Read, Write};
+use std::marker::Model;
+use std::rt::Files;
+
+/// Standard input, or another reader of the system.
+#[derive(Drop)]
+pub struct StdSource<R: Read> {
+    input: R,
+    faults: u64,
+}
+
+impl<R: Read> Model for StdSource<R> {
+    ghost use Rattle.std.specs.Prelude.{ℕ};
+
+    ghost Value = { ℕ };
+
+    ghost view = { λ s. s.faults };
+}
+
+impl<R: Read> StdSource<R> {
+    pub fn new(input: R) -> StdSource<R>
+        ensures { result ≡ 0 }
+    {
+        StdSource { input, faults: 0 }
+    }
+}
+
+impl<R: Read> Source for StdSource<R> {
+    ghost left = { λ _. None };
+
+    ghost faults = { λ s. s };
+
+    fn read(&mut self, room: &mut [u8]) -> Result<usize, Failed> {
+        match self.input.read(room) {
+            Ok(count) => Ok(count),
+            Err(_) => {
+                self.faults = self.faults.saturating_add(1);
+                Err(Failed)
+            }
+        }
+    }
+}
+
+/// Hands octets at the front of a piece to the system. `None` is an error, or that it took none of some.
+fn hand_over<W: Write>(output: &mut W, piece: &[u8]) -> Option<usize>
+    ensures bound { IfSome result (λ n. n ≤ length piece.now) }
+    ensures moves { IfSome result (λ n. 0 < length piece.now → 0 < n) }
+{
+    let count = output.write(piece).ok()?;
+    output.flush().ok()?;
+    if count == 0 && !piece.is_empty() {
+        return None;
+    }
+    Some(count)
+}
+
+/// Standard output, or another writer of the system. What a write took was handed to the system.
+#[derive(Drop)]
+pub struct StdSink<W: Write> {
+    output: W,
+    faults: u64,
+}
+
+impl<W: Write> Model for StdSink<W> {
+    ghost use Rattle.std.specs.Prelude.{ℕ};
+
+    ghost Value = { ℕ };
+
+    ghost view = { λ s. s.faults };
+}
+
+impl<W: Write> StdSink<W> {
+    pub fn new(output: W) -> StdSink<W>
+        ensures { result ≡ 0 }
+    {
+        StdSink { output, faults: 0 }
+    }
+}
+
+impl<W: Write> Sink for StdSink<W> {
+    ghost held = { λ _. None };
+
+    ghost faults = { λ s. s };
+
+    fn write(&mut self, piece: &[u8]) -> Result<usize, Miss> {
+        match hand_over(&mut self.output, piece) {
+            Some(count) => Ok(count),
+            None => {
+                self.faults = self.faults.saturating_add(1);
+                Err(Miss::Failed)
+            }
+        }
+    }
+}
+
+/// A file, which is made or emptied at the first write.
+#[derive(Drop)]
+pub struct FileSink<'a, R: Files> {
+    files: &'a R,
+    path: &'a str,
+    file: Option<R::File>,
+    faults: u64,
+}
+
+impl<'a, R: Files> Model for FileSink<'a, R> {
+    ghost use Rattle.std.specs.Prelude.{ℕ};
+
+    ghost Value = { ℕ };
+
+    ghost view = { λ s. s.faults };
+}
+
+impl<'a, R: Files> FileSink<'a, R> {
+    pub fn new(files: &'a R, path: &'a str) -> FileSink<'a, R>
+        ensures { result ≡ 0 }
+    {
+        FileSink {
+            files,
+            path,
+            file: None,
+            faults: 0,
+        }
+    }
+}
+
+/// Hands octets at the front of a piece to the file, which is opened first where it isn't open yet.
+fn hand_to_file<R: Files>(
+    files: &R,
+    path: &str,
+    file: &mut Option<R::File>,
+    piece: &[u8],
+) -> Option<usize>
+    ensures bound { IfSome result (λ n. n ≤ length piece.now) }
+    ensures moves { IfSome result (λ n. 0 < length piece.now → 0 < n) }
+{
+    if let None = file {
+        *file = Some(fs::create(files, path).ok()?);
+    }
+    hand_over(file.as_mut()?, piece)
+}
+
+impl<R: Files> Sink for FileSink<'_, R> {
+    ghost held = { λ _. None };
+
+    ghost faults = { λ s. s };
+
+    fn write(&mut self, piece: &[u8]) -> Result<usize, Miss> {
+        match hand_to_file(self.files, self.path, &mut self.file, piece) {
+            Some(count) => Ok(count),
+            None => {
+                self.faults = self.faults.saturating_add(1);
+                Err(Miss::Failed)
+            }
+        }
+    }
+}
+
+/// It takes everything, tells nothing and never fails.
+#[derive(Clone, Copy, Debug)]
+pub struct DropSink;
+
+impl Sink for DropSink {
+    ghost held = { λ _. None };
+
+    ghost faults = { λ _. 0 };
+
+    fn write(&mut self, piece: &[u8]) -> Result<usize, Miss>
+        ensures bound { WritesAtMost result piece.now }
+        ensures moves { IfOk result (λ n. 0 < length piece.now → 0 < n) }
+        ensures bytes { WriteAppends None None result piece.now }
+        ensures cause { HasMissCause 0 0 result }
+        ensures whole { result ≡ Ok (length piece.now) }
+    {
+        Ok(piece.len())
+    }
+}

@@ -1,0 +1,4 @@
+pub mod Ends
+pub mod Peer
+pub mod Receiver
+pub mod Stream

@@ -1,0 +1,21 @@
+//! What holds of the definitions, for every peer and every network: each law is the contract of a function that does
+//! nothing.
+ghost use Rattle.std.specs.Prelude.{◌≡◌, ℕ, ◌^◌, ◌<◌, ◌≤◌, List, length};
+ghost use Rattle.std.specs.List.{AllByRecursion};
+ghost use Rattle.tcp_recv.specs.Peer.{true_place, IsPart, Heard, board_after, IsFrontOf};
+ghost use Rattle.tcp_recv.specs.Stream.{Cut, place_of};
+
+/// A cut of a peer's stream of fewer than 2^31 octets stands at its true place, whatever of the stream was accepted.
+pub fn places_are_true()
+    ensures { (irs seq accepted : ℕ) → (stream : List ℕ) → length stream < 2 ^ 31 → seq < 2 ^ 32
+        → true_place irs seq ≤ length stream → accepted ≤ length stream
+        → place_of irs accepted seq ≡ record { place = true_place irs seq; skipped = 0 } }
+{}
+
+/// Whatever cuts of a peer's stream are heard, in any order, what is accepted is a front of the stream, and the end is
+/// reached only where it is the whole stream. Nothing is asked of order, loss or repetition.
+pub fn accepted_is_front()
+    ensures { (irs window : ℕ) → (stream : List ℕ) → (heard : List Heard) → length stream < 2 ^ 31
+        → AllByRecursion (λ h. IsPart irs stream h.cut) heard
+        → IsFrontOf stream (board_after irs window heard) }
+{}

@@ -1,0 +1,5 @@
+pub mod Options
+pub mod Parts
+pub mod Seen
+pub mod Segment
+pub mod Walk

@@ -1,0 +1,2 @@
+pub mod Ether
+pub mod Seen

@@ -1,0 +1,6 @@
+pub mod Grammar
+pub mod Inside
+pub mod Place
+pub mod Reading
+pub mod Stands
+pub mod Steps

@@ -1,0 +1,100 @@
+//! Reading on in the octets that were fed.
+ghost use Rattle.std.specs.Prelude.{◌≡◌, ◌+◌, ◌≤◌, length, take, drop, [], ◌∷◌, ◌++◌, OnOk, IfErr, MatchResult};
+ghost use Rattle.wire_pcap.specs.Reading.{IsPartial};
+ghost use Rattle.wire_pcap.specs.Stands.{GoesOn, Stops};
+ghost use Rattle.wire_pcap.specs.Steps.{MadeReady, IsCause};
+
+use crate::clock::{Clock, clock_at};
+use crate::fault::CapFault;
+use crate::head::{HEADER_LEN, Next, RECORD_HEAD_LEN, is_header, next_of};
+use efi_base::{Bytes, Record, Tick};
+use std::alloc::Global;
+use std::collections::VecDeque;
+
+/// Where the first record stands that isn't made yet, and the clock before it.
+#[derive(Clone, Copy, Debug)]
+pub struct Progress {
+    pub at: usize,
+    pub clock: Clock,
+}
+
+/// Makes the record of this moment that stands at the front of the octets.
+fn make_record(
+    alloc: Global,
+    bytes: &[u8],
+    kept: usize,
+    tick: u64,
+    ready: &mut VecDeque<Record>,
+) -> Result<(), CapFault>
+    requires { 16 + kept ≤ length bytes.now }
+    ensures made { OnOk result (ready.new.items ≡ ready.old.items
+        ++ record { tick = record { 0 = tick }; frame = take kept (drop 16 bytes.now) } ∷ []) }
+    ensures memory { IfErr result (λ e. e ≡ CapFault.OutOfResources) }
+{
+    let octets = &bytes[RECORD_HEAD_LEN..RECORD_HEAD_LEN + kept];
+    let Ok(frame) = Vec::from_slice(alloc, octets) else {
+        return Err(CapFault::OutOfResources);
+    };
+    let record = Record {
+        tick: Tick(tick),
+        frame: Bytes::from_vec(frame),
+    };
+    match ready.push_back(record) {
+        Ok(()) => Ok(()),
+        Err(_) => Err(CapFault::OutOfResources),
+    }
+}
+
+/// Makes the whole records that stand behind a place.
+fn read_records(
+    alloc: Global,
+    bytes: &[u8],
+    from: Progress,
+    ready: &mut VecDeque<Record>,
+) -> Result<Progress, CapFault>
+    requires { from.at ≤ length bytes.now }
+    ensures { MatchResult result (λ to. MadeReady bytes.now from to ready.old.items ready.new.items × IsPartial (drop to.at bytes.now))
+        (λ e. IsCause bytes.now from.at e) }
+{
+    let mut at = from.at;
+    let mut clock = from.clock;
+    loop {
+        let rest = &bytes[at..];
+        match next_of(rest) {
+            Next::Whole(head) => {
+                clock = clock_at(clock, head.time);
+                make_record(alloc, rest, head.kept, clock.tick, ready)?;
+                at += RECORD_HEAD_LEN + head.kept;
+            }
+            Next::Partial => return Ok(Progress { at, clock }),
+            Next::Over => return Err(CapFault::BadAt(at as u64)),
+        }
+    }
+}
+
+/// Goes on from a place in all the octets that were fed: over the header, where it is still to come, and over the
+/// records.
+pub fn read_on(
+    alloc: Global,
+    bytes: &[u8],
+    from: Progress,
+    ready: &mut VecDeque<Record>,
+) -> Result<Progress, CapFault>
+    requires { from.at ≤ length bytes.now }
+    ensures { MatchResult result (λ to. GoesOn bytes.now from to ready.old.items ready.new.items) (Stops bytes.now from) }
+{
+    if from.at >= HEADER_LEN {
+        return read_records(alloc, bytes, from, ready);
+    }
+    if bytes.len() < HEADER_LEN {
+        return Ok(from);
+    }
+    if !is_header(bytes) {
+        return Err(CapFault::BadAt(0));
+    }
+    let behind = Progress {
+        at: HEADER_LEN,
+        clock: from.clock,
+    };
+    read_records(alloc, bytes, behind, ready)
+}

@@ -1,0 +1,3 @@
+pub mod PlainLaw
+pub mod Texts
+pub mod Walking

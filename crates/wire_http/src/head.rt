@@ -1,0 +1,100 @@
+//! The head of a response (RFC 9112, section 4): its status, and what its fields say of the body.
+ghost use Rattle.std.specs.Prelude.{◌≡◌, ◌≤◌, ℕ, List, length, All};
+ghost use Rattle.httparse.specs.Grammar.{ResponseHead, MayBecomeResponse};
+ghost use Rattle.httparse.specs.Spans.{IsHeaderWithin};
+ghost use Rattle.wire_http.specs.Heads.{ReadsHead};
+ghost use Rattle.wire_http.specs.Info.{IsInfo, HeadIs, IfWhole, IsWholeAnd, NeverHasHead};
+ghost use Rattle.wire_http.specs.Walk.{fields_at};
+
+use crate::fields::{coding, framing, sole_length};
+use httparse::Status;
+use httparse::spans::{EMPTY_HEADER_SPAN, HeaderSpan, parse_response};
+
+/// The most fields of a head.
+const MOST_FIELDS: usize = 64;
+
+/// How a body is framed (RFC 9112, section 6.3).
+#[derive(Clone, Copy, PartialEq, Eq, Debug)]
+pub enum Framing {
+    /// There is no body.
+    Empty,
+    /// So many octets.
+    Length(u64),
+    /// Chunks, a last chunk and a trailer.
+    Chunked,
+    /// All octets until the stream's end.
+    Close,
+    /// A length was stated that is no number of 1 to 19 digits, or two that differ.
+    BadLength,
+}
+
+/// The field that names a coding which isn't undone here.
+#[derive(Clone, Copy, PartialEq, Eq, Debug)]
+pub enum CodingField {
+    Content,
+    Transfer,
+}
+
+/// What a head says.
+#[derive(Clone, Copy, PartialEq, Eq, Debug)]
+pub struct HeadInfo {
+    /// The three digits of the status line.
+    pub status: u16,
+    pub framing: Framing,
+    pub coding: Option<CodingField>,
+    /// The length stands in one field of 1 to 19 digits, and no field names a coding.
+    pub sole_length: bool,
+}
+
+/// What stands at the front of the octets.
+#[derive(Clone, Copy, PartialEq, Eq, Debug)]
+pub enum Head {
+    /// A head, with its length in octets.
+    Whole(HeadInfo, usize),
+    /// The front of a head.
+    More,
+    /// No head, whatever follows.
+    Bad,
+}
+
+/// Reads a head of at most 64 fields.
+pub fn read_head(bytes: &[u8]) -> Head
+    ensures whole { IfWhole result (λ info n. (head : ResponseHead) × HeadIs bytes.now head info n) }
+    ensures found { (head : ResponseHead) (rest : List ℕ) → ReadsHead bytes.now head rest
+        → IsWholeAnd result (HeadIs bytes.now head) }
+    ensures more { result ≡ Head.More → MayBecomeResponse bytes.now }
+    ensures bad { result ≡ Head.Bad → NeverHasHead bytes.now }
+{
+    let mut room = [EMPTY_HEADER_SPAN; MOST_FIELDS];
+    read_into(bytes, &mut room)
+}
+
+/// The same, with room for the fields.
+fn read_into(bytes: &[u8], room: &mut [HeaderSpan]) -> Head
+    requires { length room.old ≡ MOST_FIELDS }
+    ensures whole { IfWhole result (λ info n. (head : ResponseHead) × HeadIs bytes.now head info n) }
+    ensures found { (head : ResponseHead) (rest : List ℕ) → ReadsHead bytes.now head rest
+        → IsWholeAnd result (HeadIs bytes.now head) }
+    ensures more { result ≡ Head.More → MayBecomeResponse bytes.now }
+    ensures bad { result ≡ Head.Bad → NeverHasHead bytes.now }
+{
+    match parse_response(bytes, room) {
+        Ok(Status::Complete(head)) => {
+            Head::Whole(info_of(bytes, &room[..head.headers], head.code), head.len)
+        }
+        Ok(Status::Partial) => Head::More,
+        Err(_) => Head::Bad,
+    }
+}
+
+fn info_of(bytes: &[u8], spans: &[HeaderSpan], status: u16) -> HeadInfo
+    requires within { All (IsHeaderWithin (length bytes.now)) spans.now }
+    ensures { IsInfo result status (fields_at bytes.now spans.now) }
+{
+    HeadInfo {
+        status,
+        framing: framing(bytes, spans, status),
+        coding: coding(bytes, spans),
+        sole_length: sole_length(bytes, spans),
+    }
+}

@@ -1,0 +1,18 @@
+//! HTTP responses as a client reads them.
+#![tactic(auto)]
+
+// What the fields of a head say.
+mod fields;
+// The head of a response.
+mod head;
+// The numbers of Content-Length.
+mod lengths;
+// The body of the plainest response.
+mod plain;
+#[cfg(test)]
+mod tests;
+// Texts without case, and without the blanks around them.
+mod text;
+
+pub use head::{CodingField, Framing, Head, HeadInfo, read_head};
+pub use plain::plain_body;

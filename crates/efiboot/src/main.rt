@@ -1,0 +1,36 @@
+//! The program: its words, standard input and standard output around the top call. What they mean isn't here.
+#![tactic(auto)]
+
+use boot_top::{BAD_WORDS, NO_MEMORY, run};
+use efi_base::{DropSink, StdSink, StdSource};
+use std::process::ExitCode;
+use std::rt::Env;
+use std::{env, io};
+
+fn main(rt: HostRuntime) -> ExitCode {
+    let words = match words_of(&rt) {
+        Ok(words) => words,
+        Err(e) => return ExitCode::from(status_of(&e)),
+    };
+    let mut src = StdSource::new(rt.stdin());
+    let mut out = StdSink::new(rt.stdout());
+    let mut cap = DropSink;
+    ExitCode::from(run(rt.alloc(), &words, &mut src, &mut out, &mut cap))
+}
+
+/// The words after the program's name.
+fn words_of(rt: &(impl Env + AllocGlobal)) -> io::Result<Vec<String>> {
+    let mut words = Vec::new(rt.alloc());
+    for word in env::args(rt)?.skip(1) {
+        words.push(word)?;
+    }
+    Ok(words)
+}
+
+/// The status where there are no words to read: some are no text, or there is no memory for them.
+fn status_of(e: &io::Error) -> u8 {
+    match e.kind() {
+        io::ErrorKind::InvalidData => BAD_WORDS,
+        _ => NO_MEMORY,
+    }
+}

@@ -1,3 +1,4 @@
+pub mod LineCount
 pub mod PlainLaw
 pub mod Texts
 pub mod Walking

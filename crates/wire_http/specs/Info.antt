@@ -1,5 +1,5 @@
 -- What a reader answers of a head.
-use Rattle.std.specs.Prelude.{◌≡◌, ℕ, List, length, drop, ◌++◌, ⊤}
+use Rattle.std.specs.Prelude.{◌≡◌, ℕ, List, [], length, drop, ◌++◌, ⊤}
 use Rattle.httparse.specs.Grammar.{ResponseHead, print_response, status_code}
 use Rattle.wire_http.specs.declared.head.Head.{Head}
 use Rattle.wire_http.specs.declared.head.Head.TheVariants.{Whole, More, Bad}
@@ -35,3 +35,7 @@ IsWholeAnd Bad P = ⊥
 -- no octets can follow that make the front a head
 abbrev pub NeverHasHead : List ℕ → Type 0
 NeverHasHead bytes = (more : List ℕ) (head : ResponseHead) (rest : List ℕ) → ¬ (ReadsHead (bytes ++ more) head rest)
+
+-- some octets can follow that make the octets a head
+abbrev pub MayBecomeHead : List ℕ → Type 0
+MayBecomeHead bytes = (more : List ℕ) × (head : ResponseHead) × ReadsHead (bytes ++ more) head []

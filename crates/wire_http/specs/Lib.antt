@@ -1,3 +1,4 @@
+pub mod Begun
 pub mod Chunked
 pub mod Fields
 pub mod Heads

@@ -1,12 +1,13 @@
 //! The head of a response (RFC 9112, section 4): its status, and what its fields say of the body.
 ghost use Rattle.std.specs.Prelude.{◌≡◌, ◌≤◌, ℕ, List, length, All};
-ghost use Rattle.httparse.specs.Grammar.{ResponseHead, MayBecomeResponse};
+ghost use Rattle.httparse.specs.Grammar.{ResponseHead};
 ghost use Rattle.httparse.specs.Spans.{IsHeaderWithin};
 ghost use Rattle.wire_http.specs.Heads.{ReadsHead};
-ghost use Rattle.wire_http.specs.Info.{IsInfo, HeadIs, IfWhole, IsWholeAnd, NeverHasHead};
+ghost use Rattle.wire_http.specs.Info.{IsInfo, HeadIs, IfWhole, IsWholeAnd, MayBecomeHead, NeverHasHead};
 ghost use Rattle.wire_http.specs.Walk.{fields_at};
 
 use crate::fields::{coding, framing, sole_length};
+use crate::lines::fields_begun;
 use httparse::Status;
 use httparse::spans::{EMPTY_HEADER_SPAN, HeaderSpan, parse_response};
 
@@ -62,7 +63,7 @@ pub fn read_head(bytes: &[u8]) -> Head
     ensures whole { IfWhole result (λ info n. (head : ResponseHead) × HeadIs bytes.now head info n) }
     ensures found { (head : ResponseHead) (rest : List ℕ) → ReadsHead bytes.now head rest
         → IsWholeAnd result (HeadIs bytes.now head) }
-    ensures more { result ≡ Head.More → MayBecomeResponse bytes.now }
+    ensures more { result ≡ Head.More → MayBecomeHead bytes.now }
     ensures bad { result ≡ Head.Bad → NeverHasHead bytes.now }
 {
     let mut room = [EMPTY_HEADER_SPAN; MOST_FIELDS];
@@ -75,15 +76,15 @@ fn read_into(bytes: &[u8], room: &mut [HeaderSpan]) -> Head
     ensures whole { IfWhole result (λ info n. (head : ResponseHead) × HeadIs bytes.now head info n) }
     ensures found { (head : ResponseHead) (rest : List ℕ) → ReadsHead bytes.now head rest
         → IsWholeAnd result (HeadIs bytes.now head) }
-    ensures more { result ≡ Head.More → MayBecomeResponse bytes.now }
+    ensures more { result ≡ Head.More → MayBecomeHead bytes.now }
     ensures bad { result ≡ Head.Bad → NeverHasHead bytes.now }
 {
     match parse_response(bytes, room) {
         Ok(Status::Complete(head)) => {
             Head::Whole(info_of(bytes, &room[..head.headers], head.code), head.len)
         }
-        Ok(Status::Partial) => Head::More,
-        Err(_) => Head::Bad,
+        Ok(Status::Partial) if fields_begun(bytes) <= MOST_FIELDS => Head::More,
+        _ => Head::Bad,
     }
 }
 

@@ -5,6 +5,8 @@
 mod fields;
 // The head of a response.
 mod head;
+// The lines of a head that isn't whole yet.
+mod lines;
 // The numbers of Content-Length.
 mod lengths;
 // The body of the plainest response.

@@ -92,20 +92,22 @@ fn reads_heads(rt: HostRuntime) {
 
 #[test]
 fn reads_at_most_64_fields(rt: HostRuntime) {
-    let mut bytes = Vec::new(rt.alloc());
-    assert!(rt; bytes.extend_from_slice(b"HTTP/1.1 200 OK\n").is_ok());
-    for _ in 0..64 {
-        assert!(rt; bytes.extend_from_slice(b"a:\n").is_ok());
+    let cases: [(&[u8], Head); 5] = [
+        (b"\n", whole(200, Framing::Close, None, false, 209)),
+        (b"", Head::More),
+        (b"\r", Head::More),
+        (b"a", Head::Bad),
+        (b"a:\n\n", Head::Bad),
+    ];
+    for (end, want) in cases {
+        let mut bytes = Vec::new(rt.alloc());
+        assert!(rt; bytes.extend_from_slice(b"HTTP/1.1 200 OK\n").is_ok());
+        for _ in 0..64 {
+            assert!(rt; bytes.extend_from_slice(b"a:\n").is_ok());
+        }
+        assert!(rt; bytes.extend_from_slice(end).is_ok());
+        assert_eq!(rt; read_head(&bytes), want);
     }
-    let mut more = Vec::new(rt.alloc());
-    assert!(rt; more.extend_from_slice(&bytes).is_ok());
-    assert!(rt; bytes.extend_from_slice(b"\n").is_ok());
-    assert!(rt; more.extend_from_slice(b"a:\n\n").is_ok());
-    assert_eq!(rt;
-        read_head(&bytes),
-        whole(200, Framing::Close, None, false, 209)
-    );
-    assert_eq!(rt; read_head(&more), Head::Bad);
 }
 
 #[test]

@@ -9,7 +9,7 @@ ghost use Rattle.boot_top.specs.Seen.{arrival_seen};
 
 use efi_base::{Ip4, Mac};
 use wire_ip4::{Ip, read_ip, read_ip_unverified};
-use wire_l4::{Tcp, read_tcp, read_tcp_unverified};
+use wire_l4::{ACK, FIN, RST, SYN, Tcp, read_tcp, read_tcp_unverified};
 use wire_link::{Ether, read_ether};
 
 /// The type of frames that hold IPv4 packets (RFC 894).
@@ -17,15 +17,6 @@ const IPV4: u16 = 0x0800;
 
 /// The protocol of packets that hold TCP segments.
 const TCP: u8 = 6;
-
-/// FIN, SYN, RST and ACK (RFC 9293, section 3.1).
-const FIN: u8 = 1;
-
-const SYN: u8 = 2;
-
-const RST: u8 = 4;
-
-const ACK: u8 = 16;
 
 /// A segment, the station whose frame held it, and the addresses of its datagram.
 #[derive(Clone, Copy)]

@@ -14,7 +14,7 @@ use crate::arrival::{TcpArrival, is_data, is_empty, is_last};
 use efi_base::NoMemory;
 use std::alloc::Global;
 use tcp_recv::Recv;
-use wire_http::{Framing, Head, plain_body, read_head};
+use wire_http::{Framing, Head, MOST_HEAD, plain_body, read_head};
 use wire_l4::Tcp;
 
 /// The window with which a captured stream is kept, in octets: a foreign client may scale its own.
@@ -25,9 +25,6 @@ const BUFFER: usize = 16_777_216;
 
 /// How many octets are taken from the stream at a time. No segment has more.
 const ROOM: usize = 65_536;
-
-/// The most octets of a response's heads.
-const HEADS: usize = 16_384;
 
 /// The body of the whole response that the segments after the peer's SYN hold, if they come in order up to it.
 pub fn download(
@@ -161,12 +158,12 @@ fn fitting_body(stream: &[u8]) -> Option<&[u8]>
 /// How long the stream gets before its response can be whole; None where that never comes. It saves reading the head
 /// again with each segment, and decides nothing else.
 fn octets_needed(stream: &[u8]) -> Option<usize> {
-    match read_head(&stream[..stream.len().min(HEADS)]) {
+    match read_head(&stream[..stream.len().min(MOST_HEAD)]) {
         Head::Whole(info, len) => match info.framing {
             Framing::Length(count) => usize::try_from(count).ok()?.checked_add(len),
             _ => None,
         },
-        Head::More if stream.len() < HEADS => Some(0),
+        Head::More if stream.len() < MOST_HEAD => Some(0),
         _ => None,
     }
 }

@@ -17,4 +17,4 @@ mod tests;
 mod text;
 
 pub use head::{CodingField, Framing, Head, HeadInfo, read_head};
-pub use plain::plain_body;
+pub use plain::{MOST_HEAD, plain_body};

@@ -5,8 +5,8 @@ ghost use Rattle.wire_http.specs.Response.{IsWhole};
 
 use crate::head::{Framing, Head, read_head};
 
-/// The most octets of all heads of a response.
-const MOST_HEAD: usize = 16_384;
+/// The most octets of all heads of a response together.
+pub const MOST_HEAD: usize = 16_384;
 
 /// The status of a response that has what was asked for (RFC 9110, section 15.3.1).
 const OK: u16 = 200;

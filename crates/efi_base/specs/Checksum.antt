@@ -1,5 +1,5 @@
 -- The Internet checksum (RFC 1071, section 1).
-use Rattle.std.specs.Prelude.{ℕ, ◌+◌, ◌-◌, ◌*◌, List, [], ◌∷◌, nat_lt, if◌then◌else◌}
+use Rattle.std.specs.Prelude.{ℕ, ◌<◌, ◌+◌, ◌-◌, ◌*◌, List, [], ◌∷◌, nat_lt, if◌then◌else◌, slice_index}
 
 -- the sum of two words of 16 bits, whose carry comes back in at the low end
 abbrev pub ones_sum : ℕ → ℕ → ℕ
@@ -24,3 +24,7 @@ checksum_of bytes = 65535 - sum_of (words bytes)
 abbrev pub plain_sum : List ℕ → ℕ
 plain_sum [] = 0
 plain_sum (w ∷ ws) = w + plain_sum ws
+
+-- each is an octet
+abbrev pub AreOctets : List ℕ → Type 0
+AreOctets bytes = (i : ℕ) → slice_index bytes i < 256

@@ -4,10 +4,14 @@
 
 // why a call gave no value
 mod fault;
+// headers: numbers at their places, and what follows
+mod fields;
 // reading a source to its end
 mod intake;
 // the Internet checksum
 mod internet_sum;
+// what holds of the definition of the checksum
+mod laws;
 // sources and sinks in memory
 mod memory;
 // strings of octets that own their memory
@@ -22,8 +26,10 @@ mod plan;
 mod system;
 
 pub use fault::{Bad, Failed, Miss, NoMemory, NoRoom};
+pub use fields::{put_parts, u16_at, u32_at};
 pub use intake::{INPUT_LIMIT, InputFault, PIECE, read_all};
 pub use internet_sum::checksum;
+pub use laws::{changed_word_is_seen, filled_in_sums_to_ones};
 pub use memory::{MemSink, MemSource, SureSink, SureSource};
 pub use octets::Bytes;
 pub use outside::{Sink, Source, write_all};

@@ -3,8 +3,9 @@
 ghost use Rattle.std.specs.Prelude.{◌≡◌, IfOk, None};
 
 use crate::{
-    Bytes, DropSink, Failed, FileSink, InputFault, MemSink, MemSource, Miss, PIECE, Sink, Source,
-    StdSink, StdSource, SureSink, SureSource, checksum, read_all, write_all,
+    Bytes, DropSink, Failed, FileSink, InputFault, MemSink, MemSource, Miss, NoRoom, PIECE, Sink,
+    Source, StdSink, StdSource, SureSink, SureSource, checksum, put_parts, read_all, u16_at,
+    u32_at, write_all,
 };
 use std::alloc::Global;
 use std::test::Fail;
@@ -12,7 +13,7 @@ use std::test::Fail;
 #[test]
 fn checksums(rt: HostRuntime) {
     // the example of RFC 1071, section 3, and a header of IPv4 without and with its checksum
-    let rows: [(&[u8], &[u8], u16); 7] = [
+    let rows: [(&[u8], &[u8], u16); 9] = [
         (b"\x00\x01\xf2\x03", b"\xf4\xf5\xf6\xf7", 0x220d),
         (b"\x00\x01\xf2\x03\xf4\xf5\xf6\xf7", b"", 0x220d),
         (
@@ -28,11 +29,40 @@ fn checksums(rt: HostRuntime) {
         (b"", b"\x01", 0xfeff),
         (b"\xff\xff\xff\xff", b"\x00\x01\x02", 0xfdfe),
         (b"", b"", 0xffff),
+        // words of 64 bits, and what is left behind them
+        (b"abcdefghijklmnopqrstuvwx", b"yz0123456789!", 0x4b5a),
+        (
+            b"\xff\xff\xff\xff\xff\xff\xff\xff",
+            b"\xff\xff\xff\xff\xff\xff\xff\xff\x80",
+            0x7fff,
+        ),
     ];
     for (first, second, want) in rows {
         assert!(rt; first.len() % 2 == 0);
         assert_eq!(rt; checksum(first, second), want, "{first:?} {second:?}");
     }
+}
+
+/// The answer of `put_parts` for a room of so many octets, and the room.
+fn put_into(size: usize) -> (Result<usize, NoRoom>, [u8; 6]) {
+    let mut room = *b"......";
+    let put = match room.get_mut(..size) {
+        Some(front) => put_parts(b"ab", b"cde", front),
+        None => Err(NoRoom),
+    };
+    (put, room)
+}
+
+#[test]
+fn headers_with_a_rest(rt: HostRuntime) {
+    assert_eq!(rt; put_into(6), (Ok(5), *b"abcde."));
+    assert_eq!(rt; put_into(5), (Ok(5), *b"abcde."));
+    assert_eq!(rt; put_into(4), (Err(NoRoom), *b"......"));
+    assert_eq!(rt; put_into(1), (Err(NoRoom), *b"......"));
+    assert_eq!(rt;
+        (u16_at(b"abcde", 3), u32_at(b"abcde", 1)),
+        (0x6465, 0x6263_6465)
+    );
 }
 
 #[test]

@@ -1,12 +1,10 @@
--- The sums stay far below the type's end.
+-- Each word of 64 bits adds its four words of 16, and at most 2^64.
 use Rattle.std.proofs.Common.{arith}
-use Rattle.efi_base.proofs.Sums.{words-bound}
+use Rattle.std.proofs.lemmas.List.{take_rest}
+use Rattle.efi_base.proofs.Sums.{sums-more}
 use Rattle.efi_base.proofs.internet_sum.total_of.Goals as goal
 
-pub overflow_add-total : goal.overflow_add-total
-overflow_add-total c =
-    omega (arith, words-bound c.args.bytes.now (λ i. omega (arith, c.type_inv.bytes i)), c.loop-rest.invariant)
-
-pub overflow_add-result : goal.overflow_add-result
-overflow_add-result c =
-    omega (arith, words-bound c.args.bytes.now (λ i. omega (arith, c.type_inv.bytes i)), c.loop-rest.invariant)
+pub loop-rest-preserved : goal.loop-rest-preserved
+loop-rest-preserved c =
+    rw (take_rest c.loop-rest.rest.now 8, c.read_u64.ensures)
+    (sums-more c.loop-rest.total c.loop-rest.rest.now c.args.bytes.now (omega arith) (rw c.read_u64.ensures at c.read_u64.type_inv) c.loop-rest.invariant)

@@ -1,10 +1,15 @@
-//! Ethernet frames.
+//! Ethernet frames, and address resolution for IPv4 over them.
 #![tactic(auto)]
 
+// addresses at their places
+mod fields;
 // Ethernet frames with a type field
 mod frame;
+// address resolution
+mod resolution;
 
-pub use frame::{Ether, read_ether};
+pub use frame::{Ether, read_ether, write_ether};
+pub use resolution::{Arp, REPLY, REQUEST, read_arp, write_arp};
 
 #[cfg(test)]
 mod tests;

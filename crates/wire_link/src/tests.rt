@@ -1,6 +1,6 @@
-//! Frames that a capture has, and the edge of the header.
-use crate::{Ether, read_ether};
-use efi_base::Mac;
+//! Frames and messages of a capture and of a session, read and written, and texts that are none.
+use crate::{Arp, Ether, REPLY, REQUEST, read_arp, read_ether, write_arp, write_ether};
+use efi_base::{Bad, Ip4, Mac, NoRoom};
 use std::test::Fail;
 
 const CLIENT: Mac = Mac([2, 0, 0, 0, 0, 1]);
@@ -9,6 +9,31 @@ const SERVER: Mac = Mac([2, 0, 0, 0, 0, 2]);
 
 /// The header of a frame to the server, and the first word of its packet.
 const FRAME: &[u8] = b"\x02\0\0\0\0\x02\x02\0\0\0\0\x01\x08\x00\x45\0\0\x28";
+
+/// A frame that asks everyone for the address of 10.0.0.1.
+const REQUEST_FRAME: [u8; 60] = *b"\xff\xff\xff\xff\xff\xff\x02\0\0\0\0\x01\x08\x06\
+    \0\x01\x08\0\x06\x04\0\x01\x02\0\0\0\0\x01\x0a\0\0\x02\0\0\0\0\0\0\x0a\0\0\x01\
+    \0\0\0\0\0\0\0\0\0\0\0\0\0\0\0\0\0\0";
+
+const ASKED: Arp = Arp {
+    op: REQUEST,
+    sha: CLIENT,
+    spa: Ip4(0x0A00_0002),
+    tha: Mac([0; 6]),
+    tpa: Ip4(0x0A00_0001),
+};
+
+/// The answer to it.
+const ANSWER: [u8; 28] =
+    *b"\0\x01\x08\0\x06\x04\0\x02\x02\0\0\0\0\x02\x0a\0\0\x01\x02\0\0\0\0\x01\x0a\0\0\x02";
+
+const ANSWERED: Arp = Arp {
+    op: REPLY,
+    sha: SERVER,
+    spa: Ip4(0x0A00_0001),
+    tha: CLIENT,
+    tpa: Ip4(0x0A00_0002),
+};
 
 #[test]
 fn reads_frames(rt: HostRuntime) {
@@ -21,4 +46,58 @@ fn reads_frames(rt: HostRuntime) {
     assert_eq!(rt; read_ether(FRAME), Ok(frame));
     assert!(rt; read_ether(&FRAME[..14]).is_ok());
     assert!(rt; read_ether(&FRAME[..13]).is_err());
+}
+
+#[test]
+fn writes_frames(rt: HostRuntime) {
+    let frame = Ether {
+        dest: Mac([0xff; 6]),
+        src: CLIENT,
+        proto: 0x0806,
+        payload: &REQUEST_FRAME[14..42],
+    };
+    let mut room = [0xee; 62];
+    assert_eq!(rt; write_ether(&frame, &mut room), Ok(60));
+    assert!(rt; room[..60] == REQUEST_FRAME[..]);
+    assert_eq!(rt; (room[60], room[61]), (0xee, 0xee));
+    let mut short = [0xee; 59];
+    assert_eq!(rt; write_ether(&frame, &mut short), Err(NoRoom));
+    assert!(rt; short == [0xee; 59]);
+    let long = Ether {
+        payload: &[7; 47],
+        ..frame
+    };
+    assert_eq!(rt; write_ether(&long, &mut room), Ok(61));
+    assert_eq!(rt; write_ether(&long, &mut room[..60]), Err(NoRoom));
+}
+
+#[test]
+fn reads_and_writes_messages(rt: HostRuntime) {
+    assert_eq!(rt; read_arp(&REQUEST_FRAME[14..]), Ok(ASKED));
+    assert_eq!(rt; read_arp(&ANSWER), Ok(ANSWERED));
+    let mut room = [0xee; 30];
+    assert_eq!(rt; write_arp(&ANSWERED, &mut room), Ok(28));
+    assert!(rt; room[..28] == ANSWER[..]);
+    assert_eq!(rt; (room[28], room[29]), (0xee, 0xee));
+    assert_eq!(rt; write_arp(&ANSWERED, &mut room[..27]), Err(NoRoom));
+    assert_eq!(rt; read_arp(&ANSWER[..27]), Err(Bad));
+    for (what, place, octet) in [
+        ("other hardware", 1, 6),
+        ("another protocol", 2, 0x86),
+        ("hardware addresses of 5 octets", 4, 5),
+        ("protocol addresses of 6 octets", 5, 6),
+        ("operation 0", 7, 0),
+        ("operation 3", 7, 3),
+    ] {
+        assert_eq!(rt; read_arp(&with_octet(place, octet)), Err(Bad), "{what}");
+    }
+}
+
+/// The answer with another octet at this place.
+fn with_octet(place: usize, octet: u8) -> [u8; 28] {
+    let mut message = ANSWER;
+    if let Some(there) = message.get_mut(place) {
+        *there = octet;
+    }
+    message
 }

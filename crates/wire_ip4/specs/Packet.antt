@@ -1,6 +1,6 @@
 -- IPv4 packets (RFC 791, section 3.1). Numbers stand at the places of the RFC's table, the highest octet first.
-use Rattle.std.specs.Prelude.{ℕ, ◌*◌, ◌/◌, ◌%◌, ◌&&◌, ◌||◌, ◌==◌, Bool, nat_le, nat_lt, List, length, take, drop, slice_index, slice_range, Option, Some, None, if◌then◌else◌}
-use Rattle.byteorder.specs.Endian.{big_number}
+use Rattle.std.specs.Prelude.{◌≡◌, ℕ, ◌+◌, ◌*◌, ◌/◌, ◌%◌, ◌^◌, ◌<◌, ◌≤◌, ◌&&◌, ◌||◌, ◌==◌, Bool, nat_le, nat_lt, List, ◌∷◌, ◌++◌, length, take, drop, slice_index, slice_range, Option, Some, None, if◌then◌else◌}
+use Rattle.byteorder.specs.Endian.{big_number, big_bytes}
 use Rattle.efi_base.specs.Checksum.{checksum_of}
 
 -- a packet: addresses, protocol, identification, don't-fragment, more-fragments, the place of its payload in the
@@ -15,6 +15,31 @@ pub record Packet : Type 0 where
   pub place : ℕ
   pub ttl : ℕ
   pub payload : List ℕ
+
+-- what has a spelling: fields that fit, a place that is a multiple of 8, and a total length of at most 65,535
+pub record IsPacket (p : Packet) : Type 0 where
+  pub src : p.src < 2 ^ 32
+  pub dest : p.dest < 2 ^ 32
+  pub proto : p.proto < 2 ^ 8
+  pub id : p.id < 2 ^ 16
+  pub place : p.place < 2 ^ 16
+  pub eights : p.place % 8 ≡ 0
+  pub ttl : p.ttl < 2 ^ 8
+  pub payload : length p.payload ≤ 65515
+
+-- the word of flags and place: don't-fragment, more-fragments, and the place in eights of octets
+abbrev pub fragment_number : Bool → Bool → ℕ → ℕ
+fragment_number df mf place = (if df then 16384 else 0) + ((if mf then 8192 else 0) + place / 8)
+
+-- a header without options that has this checksum: version 4 and five words, service 0, the total length
+abbrev pub header_text : Packet → ℕ → List ℕ
+header_text p sum =
+    69 ∷ 0 ∷ (big_bytes 2 (20 + length p.payload) ++ (big_bytes 2 p.id ++ (big_bytes 2 (fragment_number p.df p.mf p.place)
+    ++ (p.ttl ∷ p.proto ∷ (big_bytes 2 sum ++ (big_bytes 4 p.src ++ big_bytes 4 p.dest))))))
+
+-- the octets of a packet: the checksum is that of its header with a checksum of 0
+abbrev pub packet_text : Packet → List ℕ
+packet_text p = header_text p (checksum_of (header_text p 0)) ++ p.payload
 
 -- the length of the header in octets: its field counts words of four
 abbrev pub header_length : List ℕ → ℕ

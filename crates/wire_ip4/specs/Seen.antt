@@ -1,5 +1,7 @@
 -- The values of the crate as contracts see them.
+use Rattle.wire_ip4.specs.declared.message.Icmp.{Icmp}
 use Rattle.wire_ip4.specs.declared.packet.Ip.{Ip}
+use Rattle.wire_ip4.specs.Message.{Message}
 use Rattle.wire_ip4.specs.Packet.{Packet}
 
 -- a packet without where it lies in memory
@@ -15,3 +17,7 @@ packet_seen p = record {
   ttl = p.ttl;
   payload = p.payload.now;
 }
+
+-- a message without where it lies in memory
+abbrev pub message_seen : Icmp → Message
+message_seen m = record { kind = m.kind; code = m.code; rest = m.rest; payload = m.payload.now }

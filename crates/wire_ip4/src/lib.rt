@@ -1,12 +1,13 @@
-//! IPv4 packets.
+//! IPv4 packets, and the ICMP messages in them.
 #![tactic(auto)]
 
-// numbers at their places in a header
-mod fields;
+// ICMP messages
+mod message;
 // IPv4 packets
 mod packet;
 
-pub use packet::{Ip, read_ip, read_ip_unverified};
+pub use message::{Icmp, read_icmp, write_icmp};
+pub use packet::{Ip, read_ip, read_ip_unverified, write_ip};
 
 #[cfg(test)]
 mod tests;

@@ -1,12 +1,13 @@
 //! IPv4 packets (RFC 791, section 3.1). Options are skipped, and octets past the total length are padding. Nothing
 //! here joins fragments.
-ghost use Rattle.std.specs.Prelude.{◌≡◌, ◌*◌, ◌/◌, ◌%◌, ◌==◌, ◌≤◌, length, IsTrue};
+ghost use Rattle.std.specs.Prelude.{◌≡◌, ◌*◌, ◌/◌, ◌%◌, ◌==◌, ◌≤◌, length, take, IsTrue, Some, IfOk};
 ghost use Rattle.efi_base.specs.Reads.{ReadsAs};
-ghost use Rattle.wire_ip4.specs.Packet.{packet_of, unverified_packet_of, header_length, total_length, has_packet, packet_in};
+ghost use Rattle.efi_base.specs.Writes.{Writes};
+ghost use Rattle.wire_ip4.specs.Packet.{IsPacket, packet_of, unverified_packet_of, header_length, total_length, has_packet, packet_in, fragment_number, header_text, packet_text};
 ghost use Rattle.wire_ip4.specs.Seen.{packet_seen};
 
-use crate::fields::{u16_at, u32_at};
-use efi_base::{Bad, Ip4, checksum};
+use byteorder::{BigEndian, ByteOrder};
+use efi_base::{Bad, Ip4, NoRoom, checksum, put_parts, u16_at, u32_at};
 
 /// A packet whose payload lies in the octets that were read. Numbers are in host order; `df` says that it may not be
 /// cut into fragments, `mf` that more of them follow, and `place` where its payload lies in the datagram, in octets.
@@ -33,6 +34,9 @@ const MF: u32 = 13;
 
 /// The bits of that word that have the place, in eights of octets.
 const PLACE: u16 = 0x1FFF;
+
+/// Version 4 and a header of five words.
+const NO_OPTIONS: u8 = 0x45;
 
 /// Reads a packet whose header has a right checksum.
 #[tactic(auto, unfolding(crate::specs::Packet::packet_of))]
@@ -124,4 +128,51 @@ fn place_of(word: u16) -> u16
     ensures { result ≡ word % 8192 * 8 }
 {
     (word & PLACE) * 8
+}
+
+/// Writes a packet without options, of service 0. `place` is a multiple of 8, and there are at most 65,515 octets of
+/// payload. `NoRoom` says that the room has fewer octets than header and payload.
+pub fn write_ip(v: &Ip<'_>, room: &mut [u8]) -> Result<usize, NoRoom>
+    requires place { v.now.place % 8 ≡ 0 }
+    requires payload { length v.now.payload.now ≤ 65515 }
+    ensures written { Writes (packet_text (packet_seen v.now)) room.old result room.new }
+    // What was written is read again.
+    ensures again { IfOk result (λ n. packet_of (take n room.new) ≡ Some (packet_seen v.now)) }
+{
+    let sum = checksum(&header_of(*v, 0), &[]);
+    put_parts(&header_of(*v, sum), v.payload, room)
+}
+
+/// A header without options that has this checksum.
+fn header_of(v: Ip<'_>, sum: u16) -> [u8; HEADER]
+    requires place { v.place % 8 ≡ 0 }
+    requires payload { length v.payload.now ≤ 65515 }
+    ensures text { result ≡ header_text (packet_seen v.entry) sum }
+    ensures spelled { IsPacket (packet_seen v.entry) }
+{
+    let mut octets = [0; HEADER];
+    octets[0] = NO_OPTIONS;
+    BigEndian::write_u16(&mut octets[2..], (HEADER + v.payload.len()) as u16);
+    BigEndian::write_u16(&mut octets[4..], v.id);
+    BigEndian::write_u16(&mut octets[6..], word_of(v.df, v.mf, v.place));
+    octets[8] = v.ttl;
+    octets[9] = v.proto;
+    BigEndian::write_u16(&mut octets[10..], sum);
+    BigEndian::write_u32(&mut octets[12..], v.src.0);
+    BigEndian::write_u32(&mut octets[16..], v.dest.0);
+    octets
+}
+
+/// The word of flags and place. The place is in octets.
+fn word_of(df: bool, mf: bool, place: u16) -> u16
+    ensures { result ≡ fragment_number df mf place }
+{
+    let mut word = place / 8;
+    if df {
+        word += 1 << DF;
+    }
+    if mf {
+        word += 1 << MF;
+    }
+    word
 }

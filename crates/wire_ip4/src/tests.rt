@@ -1,6 +1,7 @@
-//! Packets of a capture, a fragment with options, and headers that are none. The sums were computed apart.
-use crate::{Ip, read_ip, read_ip_unverified};
-use efi_base::{Bad, Ip4};
+//! Packets of a capture and of a session, fragments, echo messages, and texts that are none. The sums were computed
+//! apart.
+use crate::{Icmp, Ip, read_icmp, read_ip, read_ip_unverified, write_icmp, write_ip};
+use efi_base::{Bad, Ip4, NoRoom};
 
 const CLIENT: Ip4 = Ip4(0x0A00_0002);
 
@@ -16,6 +17,19 @@ const FRAGMENT: &[u8] =
 
 const WHOLE: &[u8] =
     b"\x46\0\0\x1c\x12\x34\x40\x0b\x40\x11\x11\x8e\x0a\0\0\x01\x0a\0\0\x02\x01\x01\x01\x01data";
+
+/// A datagram of a session, and fragments whose place is 88, and the last there is.
+const DATAGRAM: &[u8] = b"\x45\0\0\x1e\0\0\0\0\x40\x11\x66\xcd\x0a\0\0\x02\x0a\0\0\x01\
+    \x13\x88\0\x07\0\x0a\x6f\xdf\x68\x69";
+
+const MIDDLE: &[u8] = b"\x45\0\0\x18\x12\x34\x20\x0b\x40\x11\x34\x94\x0a\0\0\x01\x0a\0\0\x02data";
+
+const LAST: &[u8] = b"\x45\0\0\x14\x12\x34\x5f\xff\x40\x11\xf4\xa3\x0a\0\0\x01\x0a\0\0\x02";
+
+/// An echo request with an odd number of octets, and its reply.
+const ECHO: &[u8] = b"\x08\0\xf8\x2b\0\x01\0\x02ping!";
+
+const ECHOED: &[u8] = b"\0\0\0\x2c\0\x01\0\x02ping!";
 
 #[test]
 fn reads_packets(rt: HostRuntime) {
@@ -70,6 +84,81 @@ fn refuses_headers(rt: HostRuntime) {
     assert!(rt; read_ip_unverified(&wrong_sum).is_ok());
 }
 
+#[test]
+fn writes_packets(rt: HostRuntime) {
+    let datagram = Ip {
+        src: CLIENT,
+        dest: SERVER,
+        proto: 17,
+        id: 0,
+        df: false,
+        mf: false,
+        place: 0,
+        ttl: 64,
+        payload: &DATAGRAM[20..],
+    };
+    let middle = Ip {
+        src: SERVER,
+        dest: CLIENT,
+        id: 0x1234,
+        mf: true,
+        place: 88,
+        payload: b"data",
+        ..datagram
+    };
+    let last = Ip {
+        df: true,
+        mf: false,
+        place: 65_528,
+        payload: &[],
+        ..middle
+    };
+    for (packet, text) in [(datagram, DATAGRAM), (middle, MIDDLE), (last, LAST)] {
+        let mut room = [0xee; 31];
+        assert_eq!(rt; write_packet(&packet, &mut room), Ok(text.len()));
+        assert!(rt; room[..text.len()] == text[..]);
+        assert_eq!(rt; room[text.len()..].first(), Some(&0xee));
+        assert_eq!(rt; read_ip(&room), Ok(packet));
+        assert_eq!(rt;
+            write_packet(&packet, &mut room[..text.len() - 1]),
+            Err(NoRoom)
+        );
+    }
+}
+
+#[test]
+fn reads_and_writes_messages(rt: HostRuntime) {
+    let asked = Icmp {
+        kind: 8,
+        code: 0,
+        rest: 0x0001_0002,
+        payload: b"ping!",
+    };
+    let answered = Icmp { kind: 0, ..asked };
+    let unreachable = Icmp {
+        kind: 3,
+        code: 3,
+        rest: 0,
+        payload: &[],
+    };
+    for (message, text) in [
+        (asked, ECHO),
+        (answered, ECHOED),
+        (unreachable, b"\x03\x03\xfc\xfc\0\0\0\0"),
+    ] {
+        assert_eq!(rt; read_icmp(text), Ok(message));
+        let mut room = [0xee; 14];
+        assert_eq!(rt; write_icmp(&message, &mut room), Ok(text.len()));
+        assert!(rt; room[..text.len()] == text[..]);
+        assert_eq!(rt;
+            write_icmp(&message, &mut room[..text.len() - 1]),
+            Err(NoRoom)
+        );
+    }
+    assert_eq!(rt; read_icmp(&ECHO[..7]), Err(Bad), "seven octets");
+    assert_eq!(rt; read_icmp(&ECHO[..12]), Err(Bad), "a wrong checksum");
+}
+
 /// The packet with another octet at this place.
 fn with_octet(place: usize, octet: u8) -> [u8; 46] {
     let mut packet = PACKET;
@@ -77,4 +166,12 @@ fn with_octet(place: usize, octet: u8) -> [u8; 46] {
         *there = octet;
     }
     packet
+}
+
+/// Writes one of the packets of these tests, whose conditions are looked at here.
+fn write_packet(packet: &Ip<'_>, room: &mut [u8]) -> Result<usize, NoRoom> {
+    if packet.place % 8 != 0 || packet.payload.len() > 65_515 {
+        return Ok(0);
+    }
+    write_ip(packet, room)
 }

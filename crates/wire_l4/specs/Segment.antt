@@ -1,8 +1,8 @@
 -- TCP segments (RFC 9293, section 3.1). Numbers stand at the places of the RFC's table, the highest octet first.
-use Rattle.std.specs.Prelude.{ℕ, ◌*◌, ◌/◌, ◌^◌, ◌&&◌, ◌==◌, Bool, nat_le, nat_lt, List, [], ◌∷◌, ◌++◌, length, drop, slice_index, slice_range, Option, Some, None, is_some, unwrap_or, if◌then◌else◌}
-use Rattle.byteorder.specs.Endian.{big_number, big_bytes}
-use Rattle.efi_base.specs.Checksum.{checksum_of}
+use Rattle.std.specs.Prelude.{ℕ, ◌*◌, ◌/◌, ◌^◌, ◌&&◌, ◌==◌, Bool, nat_le, nat_lt, List, [], length, drop, slice_index, slice_range, Option, Some, None, is_some, unwrap_or, if◌then◌else◌}
+use Rattle.byteorder.specs.Endian.{big_number}
 use Rattle.wire_l4.specs.Options.{Item, items_of, mss_in, shift_in}
+use Rattle.wire_l4.specs.Pseudo.{message_sum}
 
 -- a segment: ports, numbers, the eight flags as one number, window, the two options that are read, and the data
 pub record Segment : Type 0 where
@@ -51,13 +51,9 @@ segment_in bytes =
 unfoldable pub unverified_segment_of : List ℕ → Option Segment
 unverified_segment_of bytes = if has_segment bytes then Some (segment_in bytes) else None
 
--- the octets that the checksum covers in front of the segment: addresses, a zero, the protocol, the length
-abbrev pub pseudo_header : ℕ → ℕ → ℕ → ℕ → List ℕ
-pseudo_header src dest proto len = big_bytes 4 src ++ (big_bytes 4 dest ++ (0 ∷ proto ∷ big_bytes 2 len))
-
 -- the pseudo header of protocol 6 and the segment sum to all ones
 abbrev pub has_right_sum : ℕ → ℕ → List ℕ → Bool
-has_right_sum src dest bytes = checksum_of (pseudo_header src dest 6 (length bytes) ++ bytes) == 0
+has_right_sum src dest bytes = message_sum src dest 6 bytes == 0
 
 -- the segment there between these addresses, with a right checksum
 unfoldable pub segment_of : ℕ → ℕ → List ℕ → Option Segment

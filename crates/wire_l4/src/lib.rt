@@ -1,8 +1,10 @@
-//! TCP segments.
+//! UDP datagrams and TCP segments.
 #![tactic(auto)]
 
-// numbers at their places in a header
-mod fields;
+// UDP datagrams
+mod datagram;
+// what holds of the formats
+mod laws;
 // the options of a TCP header
 mod options;
 // the octets that a checksum covers besides the message
@@ -10,7 +12,11 @@ mod pseudo;
 // TCP segments
 mod segment;
 
-pub use segment::{ACK, FIN, PSH, RST, SYN, Tcp, read_tcp, read_tcp_unverified};
+pub use datagram::{Udp, read_udp, write_udp};
+pub use laws::{written_datagram_is_read_again, written_segment_is_read_again};
+pub use segment::{ACK, FIN, PSH, RST, SYN, Tcp, read_tcp, read_tcp_unverified, write_tcp};
 
+#[cfg(test)]
+mod datagram_tests;
 #[cfg(test)]
 mod tests;

@@ -1,9 +1,11 @@
-//! The options of a TCP header (RFC 9293, section 3.1; RFC 7323, section 2.2). Two are read: the largest segment and
-//! the shift of the window. Others are passed over, and so are these where their length is another.
-ghost use Rattle.std.specs.Prelude.{◌≡◌, ◌<◌, ◌≤◌, List, [], ◌∷◌, length, slice_index, IfSome, IfNone};
+//! The options of a TCP header (RFC 9293, section 3.1; RFC 7323, section 2.2). Two are read and
+//! written: the largest segment and the shift of the window. Others are passed over, and so are these where their length
+//! is another.
+ghost use Rattle.std.specs.Prelude.{◌≡◌, ◌<◌, ◌≤◌, ◌++◌, ◌%◌, ◌^◌, drop, List, [], ◌∷◌, length, slice_index, IfSome, IfNone};
 ghost use Rattle.std.specs.Option.{option_map};
 ghost use Rattle.efi_base.specs.Reads.{ReadsAs};
 ghost use Rattle.wire_l4.specs.Options.{Item, items_of};
+ghost use Rattle.wire_l4.specs.Spelling.{mss_option, shift_option, options_text};
 ghost use Rattle.wire_l4.specs.Walk.{BeginsWith, known_in, joined, known_seen};
 
 use byteorder::{BigEndian, ByteOrder};
@@ -100,4 +102,43 @@ fn with_first(found: Options, next: Options) -> Options
         mss: found.mss.or(next.mss),
         shift: found.shift.or(next.shift),
     }
+}
+
+/// Writes the options that are there to the front of the room, and answers how many octets they are.
+pub(crate) fn put_options(mss: Option<u16>, shift: Option<u8>, room: &mut [u8]) -> usize
+    requires { 8 ≤ length room.old }
+    ensures len { result ≡ length (options_text mss shift) }
+    ensures text { room.new ≡ options_text mss shift ++ drop (length (options_text mss shift)) room.old }
+    ensures bound { result ≤ 8 }
+    ensures even { result % 4 ≡ 0 }
+    ensures fits { IfSome mss (λ mss. mss < 2 ^ 16) × IfSome shift (λ shift. shift < 2 ^ 8) }
+{
+    let first = put_mss(mss, room);
+    first + put_shift(shift, &mut room[first..])
+}
+
+fn put_mss(mss: Option<u16>, room: &mut [u8]) -> usize
+    requires { 4 ≤ length room.old }
+    ensures len { result ≡ length (mss_option mss) }
+    ensures text { room.new ≡ mss_option mss ++ drop (length (mss_option mss)) room.old }
+    ensures bound { result ≤ 4 }
+    ensures even { result % 4 ≡ 0 }
+{
+    let Some(mss) = mss else { return 0 };
+    room[0] = MSS;
+    room[1] = 4;
+    BigEndian::write_u16(&mut room[2..], mss);
+    4
+}
+
+fn put_shift(shift: Option<u8>, room: &mut [u8]) -> usize
+    requires { 4 ≤ length room.old }
+    ensures len { result ≡ length (shift_option shift) }
+    ensures text { room.new ≡ shift_option shift ++ drop (length (shift_option shift)) room.old }
+    ensures bound { result ≤ 4 }
+    ensures even { result % 4 ≡ 0 }
+{
+    let Some(shift) = shift else { return 0 };
+    room[..4].copy_from_slice(&[NO_OPERATION, SHIFT, 3, shift]);
+    4
 }

@@ -1,6 +1,6 @@
 //! Segments of a capture and options of several shapes. The sums of those were computed apart.
-use crate::{ACK, PSH, SYN, Tcp, read_tcp, read_tcp_unverified};
-use efi_base::{Bad, Ip4};
+use crate::{ACK, FIN, PSH, SYN, Tcp, read_tcp, read_tcp_unverified, write_tcp};
+use efi_base::{Bad, Ip4, NoRoom};
 
 const CLIENT: Ip4 = Ip4(0x0A00_0002);
 
@@ -20,6 +20,10 @@ const OPTIONS: &[u8] =
 /// A kind 2 of length 3, a largest segment of 536 octets, a shift of 7 and one of 8.
 const SKIPPED: &[u8] = b"\xc0\x01\0\x50\0\0\0\0\0\0\0\0\x90\x02\xff\xff\x6b\x68\0\0\
     \x02\x03\x05\x02\x04\x02\x18\x01\x03\x03\x07\x03\x03\x08\0\0";
+
+/// The last segment of a stream, with five octets.
+const LAST: &[u8] =
+    b"\xc0\x01\x00\x50\x00\x00\x03\xe9\x00\x01\x00\x01\x50\x19\x12\x34\xf9\xae\x00\x00\x48\x54\x54\x50\x2f";
 
 /// An option of length 0.
 const NO_LENGTH: &[u8] =
@@ -93,4 +97,76 @@ fn refuses_segments(rt: HostRuntime) {
         "a wrong checksum"
     );
     assert!(rt; read_tcp_unverified(&wrong_sum).is_ok());
+}
+
+#[test]
+fn writes_segments(rt: HostRuntime) {
+    let opening = Tcp {
+        sport: 0xC001,
+        dport: 80,
+        seq: 0x0001_0000,
+        ack: 0,
+        flags: SYN,
+        window: 0xFFFF,
+        mss: None,
+        shift: None,
+        payload: &[],
+    };
+    let largest = Tcp {
+        mss: Some(1460),
+        ..opening
+    };
+    let shifted = Tcp {
+        shift: Some(4),
+        ..opening
+    };
+    let both = Tcp {
+        shift: Some(4),
+        ..largest
+    };
+    let last = Tcp {
+        seq: 1001,
+        ack: 0x0001_0001,
+        flags: FIN | PSH | ACK,
+        window: 0x1234,
+        payload: b"HTTP/",
+        ..opening
+    };
+    for (value, size, answer, front) in [
+        (opening, 20, Ok(20), &OPENING[..]),
+        (
+            largest,
+            32,
+            Ok(24),
+            b"\xc0\x01\0\x50\0\x01\0\0\0\0\0\0\x60\x02\xff\xff\xc3\xd1\0\0\x02\x04\x05\xb4\xee",
+        ),
+        (
+            shifted,
+            32,
+            Ok(24),
+            b"\xc0\x01\0\x50\0\x01\0\0\0\0\0\0\x60\x02\xff\xff\xc7\x82\0\0\x01\x03\x03\x04\xee",
+        ),
+        (
+            both,
+            28,
+            Ok(28),
+            b"\xc0\x01\0\x50\0\x01\0\0\0\0\0\0\x70\x02\xff\xff\xaf\xc6\0\0\x02\x04\x05\xb4\x01\x03\x03\x04\xee",
+        ),
+        (last, 25, Ok(25), LAST),
+        (both, 27, Err(NoRoom), b"\xee\xee\xee\xee"),
+    ] {
+        let (answered, room) = written(value, size);
+        assert_eq!(rt; answered, answer);
+        assert!(rt; room.starts_with(front));
+    }
+}
+
+/// What is answered for a room of so many octets, and 32 octets that begin with the room.
+fn written(value: Tcp<'_>, size: usize) -> (Result<usize, NoRoom>, [u8; 32]) {
+    let mut room = [0xee; 32];
+    let answer = match room.get_mut(..size) {
+        Some(front) if value.payload.len() <= size => write_tcp(CLIENT, SERVER, &value, front),
+        _ => Err(NoRoom),
+    };
+    (answer, room)
 }

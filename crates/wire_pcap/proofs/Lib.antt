@@ -4,3 +4,4 @@ pub mod Numbers
 pub mod Splitting
 pub mod Standing
 pub mod Texts
+pub mod Writing

@@ -2,8 +2,7 @@
 use Rattle.std.proofs.Common.{◌≡◌, ℕ, ◌-◌, ◌/◌, max, List, [], ◌∷◌, ◌++◌, Some, refl, sym, ap, ◌∙◌}
 use Rattle.efi_base.specs.declared.plain.Record.{Record}
 use Rattle.wire_pcap.specs.Grammar.{Resolution, Stored, time_of, per_tick, records_from, records_of}
-use Rattle.wire_pcap.specs.Steps.{clock_after, clock_after_all, made_from}
-use Rattle.wire_pcap.specs.Stands.{new_clock}
+use Rattle.wire_pcap.specs.Steps.{new_clock, clock_after, clock_after_all, made_from}
 use Rattle.wire_pcap.specs.declared.clock.Clock.{Clock}
 
 pub clock_after_all-append : (resolution : Resolution) (clock : Clock) (xs ys : List Stored)

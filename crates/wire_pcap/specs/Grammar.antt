@@ -4,46 +4,44 @@ use Rattle.std.specs.Prelude.{◌≡◌, ℕ, ◌+◌, ◌-◌, ◌*◌, ◌/◌
 use Rattle.std.specs.List.{flat_map, AllByRecursion}
 use Rattle.byteorder.specs.Endian.{big_bytes, little_bytes}
 use Rattle.efi_base.specs.declared.plain.Record.{Record}
-
--- the byte order of a capture's numbers: that of the machine that wrote it
-pub data Order : Type 0 where
-  big little : Order
-
--- what the second number of a record's time counts
-pub data Resolution : Type 0 where
-  micros nanos : Resolution
-
--- how a capture is written
-pub record Form : Type 0 where
-  pub order : Order
-  pub resolution : Resolution
+pub use Rattle.wire_pcap.specs.declared.form.Order.{Order}
+pub use Rattle.wire_pcap.specs.declared.form.Order.TheVariants.{Big, Little}
+pub use Rattle.wire_pcap.specs.declared.form.Resolution.{Resolution}
+pub use Rattle.wire_pcap.specs.declared.form.Resolution.TheVariants.{Micros, Nanos}
+pub use Rattle.wire_pcap.specs.declared.form.Form.{Form}
 
 -- the octets of a number of n octets
 abbrev pub number_text : Order → ℕ → ℕ → List ℕ
-number_text big n x = big_bytes n x
-number_text little n x = little_bytes n x
+number_text Big n x = big_bytes n x
+number_text Little n x = little_bytes n x
 
 -- the number with which a capture begins
 abbrev pub magic : Resolution → ℕ
-magic micros = 0xA1B2C3D4
-magic nanos = 0xA1B23C4D
+magic Micros = 0xA1B2C3D4
+magic Nanos = 0xA1B23C4D
 
 -- how often the fraction fits into a second, and into a tick of a millisecond
 abbrev pub per_second : Resolution → ℕ
-per_second micros = 1000000
-per_second nanos = 1000000000
+per_second Micros = 1000000
+per_second Nanos = 1000000000
 
 abbrev pub per_tick : Resolution → ℕ
-per_tick micros = 1000
-per_tick nanos = 1000000
+per_tick Micros = 1000
+per_tick Nanos = 1000000
 
--- the 24 octets of the header: the magic number, version 2.4, twelve free octets (zone, accuracy and snapshot
--- length), and link type 1
+-- a capture begins with the magic number and version 2.4
+abbrev pub front_of : Form → List ℕ
+front_of form = number_text form.order 4 (magic form.resolution) ++ (number_text form.order 2 2 ++ number_text form.order 2 4)
+
+-- link type 1: Ethernet
+abbrev pub link_of : Form → List ℕ
+link_of form = number_text form.order 4 1
+
+-- the 24 octets of the header: its front, twelve free octets (zone, accuracy and snapshot length), and the link type
 pub record IsHeader (form : Form) (header : List ℕ) : Type 0 where
   pub free : List ℕ
   pub twelve : length free ≡ 12
-  pub text : header ≡ number_text form.order 4 (magic form.resolution)
-      ++ (number_text form.order 2 2 ++ (number_text form.order 2 4 ++ (free ++ number_text form.order 4 1)))
+  pub text : header ≡ front_of form ++ (free ++ link_of form)
 
 -- a record as it stands in the file: its time, the frame's length on the wire, and the octets that were kept of it
 pub record Stored : Type 0 where
@@ -93,6 +91,6 @@ abbrev pub records_of : Resolution → List Stored → List Record
 records_of resolution [] = []
 records_of resolution (r ∷ rs) = records_from resolution (time_of resolution r) 0 (r ∷ rs)
 
--- the form of captures that are read today: little-endian, in microseconds
+-- the form of captures that are written: little-endian, in microseconds
 abbrev pub little_micros : Form
-little_micros = record { order = little; resolution = micros }
+little_micros = record { order = Little; resolution = Micros }

@@ -1,12 +1,13 @@
 -- A reader by its fields.
-use Rattle.std.specs.Prelude.{◌≡◌, None}
+use Rattle.std.specs.Prelude.{◌≡◌, ◌<◌, [], length, Some}
 use Rattle.wire_pcap.specs.Reading.{Reading}
-use Rattle.wire_pcap.specs.Stands.{Stands}
+use Rattle.wire_pcap.specs.declared.fault.CapFault.{CapFault}
 use Rattle.wire_pcap.specs.declared.reader.PcapReader.TheInside.{Inside}
 
 abbrev pub reading_of : Inside → Reading
-reading_of a = record { fed = a.octets.items; ready = a.ready.items; given = a.given; fault = a.fault }
+reading_of a = record { stage = a.stage; rest = a.octets.items; ready = a.ready.items; fault = a.fault }
 
--- a reader without a fault stands somewhere in what was fed to it
-abbrev pub IsSound : Inside → Type 0
-IsSound a = a.fault ≡ None → Stands a.octets.items a.progress a.ready.items a.given
+-- it keeps less than a record can take, and after a fault nothing
+pub record IsSound (a : Inside) : Type 0 where
+  pub few : length a.octets.items < 262160
+  pub none_ready : (e : CapFault) → a.fault ≡ Some e → a.ready.items ≡ []

@@ -1,6 +1,9 @@
 pub mod Grammar
 pub mod Inside
+pub mod Marks
+pub mod Next
 pub mod Place
 pub mod Reading
 pub mod Stands
 pub mod Steps
+pub mod Written

@@ -2,11 +2,18 @@
 use Rattle.std.specs.Prelude.{◌≡◌, ◌⊎◌, ℕ, ◌+◌, ◌<◌, List, ◌++◌, length}
 use Rattle.wire_pcap.specs.Grammar.{Order, Form, IsHeader, Stored, IsStored, record_text, Splits, IsCapture}
 
--- however the octets go on, they are no capture
-abbrev pub NeverCapture : Form → List ℕ → Type 0
-NeverCapture form bytes = (more : List ℕ) (records : List Stored) → IsCapture form (bytes ++ more) records → ⊥
+-- the octets go on to a capture
+pub record IsCaptureFront (bytes : List ℕ) : Type 0 where
+  pub form : Form
+  pub more : List ℕ
+  pub records : List Stored
+  pub capture : IsCapture form (bytes ++ more) records
 
--- no header stands at the front of the octets
+-- however the octets go on, they are no capture
+abbrev pub NeverCapture : List ℕ → Type 0
+NeverCapture bytes = IsCaptureFront bytes → ⊥
+
+-- no header of this form stands at the front of the octets
 abbrev pub HasNoHeader : Form → List ℕ → Type 0
 HasNoHeader form bytes = (header rest : List ℕ) → IsHeader form header → bytes ≡ header ++ rest → ⊥
 
@@ -15,7 +22,8 @@ abbrev pub HasNoRecord : Order → List ℕ → Type 0
 HasNoRecord order bytes = (r : Stored) (rest : List ℕ) → IsStored r → bytes ≡ record_text order r ++ rest → ⊥
 
 -- behind the header and some whole records, the octet n begins some that aren't a whole record
-pub record IsBadRecord (form : Form) (bytes : List ℕ) (n : ℕ) : Type 0 where
+pub record IsBadRecord (bytes : List ℕ) (n : ℕ) : Type 0 where
+  pub form : Form
   pub records : List Stored
   pub rest : List ℕ
   pub splits : Splits form bytes records rest
@@ -24,5 +32,9 @@ pub record IsBadRecord (form : Form) (bytes : List ℕ) (n : ℕ) : Type 0 where
   pub place : n + length rest ≡ length bytes
 
 -- the octet n is the first of a header or a record that is bad or incomplete
-abbrev pub IsBadPlace : Form → List ℕ → ℕ → Type 0
-IsBadPlace form bytes n = ((n ≡ 0) × HasNoHeader form bytes) ⊎ IsBadRecord form bytes n
+abbrev pub IsBadPlace : List ℕ → ℕ → Type 0
+IsBadPlace bytes n = ((n ≡ 0) × ((form : Form) → HasNoHeader form bytes)) ⊎ IsBadRecord bytes n
+
+-- the octet n is that octet, and no other is
+abbrev pub IsThePlace : List ℕ → ℕ → Type 0
+IsThePlace bytes n = IsBadPlace bytes n × ((m : ℕ) → IsBadPlace bytes m → m ≡ n)

@@ -1,62 +1,94 @@
 -- A reader of captures, as others see it.
-use Rattle.std.specs.Prelude.{◌≡◌, ◌⊎◌, ℕ, ◌+◌, ◌<◌, ◌≤◌, List, [], length, drop, Option, Some, None}
-use Rattle.byteorder.specs.Endian.{little_number}
+use Rattle.std.specs.Prelude.{◌≡◌, ◌⊎◌, ℕ, ◌+◌, ◌<◌, List, [], ◌∷◌, ◌++◌, length, Option, Some, None}
 use Rattle.efi_base.specs.declared.plain.Record.{Record}
-use Rattle.wire_pcap.specs.Grammar.{Stored, Splits, IsCapture, micros, records_of, little_micros}
-use Rattle.wire_pcap.specs.Place.{IsBadPlace, NeverCapture}
+use Rattle.wire_pcap.specs.Grammar.{Order, Form, IsHeader, Stored, IsStored, record_text, Splits, IsCapture, records_of}
+use Rattle.wire_pcap.specs.Place.{IsThePlace, NeverCapture}
+use Rattle.wire_pcap.specs.Steps.{new_clock, clock_after_all}
 use Rattle.wire_pcap.specs.declared.fault.CapFault.{CapFault}
 use Rattle.wire_pcap.specs.declared.fault.CapFault.TheVariants.{BadAt, OutOfResources}
+use Rattle.wire_pcap.specs.declared.stage.Stage.{Stage}
 
--- the octets fed to it, the records that are ready, how many it gave before, and its fault
+-- what is known of the octets that were read, the rest that isn't a whole record, the records that are ready, and the fault
 pub record Reading : Type 0 where
-  pub fed : List ℕ
+  pub stage : Stage
+  pub rest : List ℕ
   pub ready : List Record
-  pub given : ℕ
   pub fault : Option CapFault
 
--- less than a whole record: fewer octets than its lengths take, or than they say
-abbrev pub IsPartial : List ℕ → Type 0
-IsPartial bytes = (length bytes < 16) ⊎ (length bytes < 16 + little_number 4 (drop 8 bytes))
+-- how many octets it keeps
+abbrev pub held : Reading → ℕ
+held r = length r.rest
+
+-- nothing was read
+abbrev pub new_stage : Stage
+new_stage = record { form = None; place = 0; clock = new_clock }
+
+-- a reader that told a fault
+abbrev pub stopped : Reading → CapFault → Reading
+stopped r e = record { stage = r.stage; rest = []; ready = []; fault = Some e }
+
+-- less than a whole header, which goes on to one
+pub record IsHeaderFront (form : Form) (bytes : List ℕ) : Type 0 where
+  pub more : List ℕ
+  pub short : length bytes < 24
+  pub header : IsHeader form (bytes ++ more)
+
+-- less than a whole record, which goes on to one
+pub record IsPartial (order : Order) (bytes : List ℕ) : Type 0 where
+  pub more : List ℕ
+  pub stored : Stored
+  pub some : 0 < length more
+  pub is_stored : IsStored stored
+  pub text : bytes ++ more ≡ record_text order stored
 
 -- the header isn't whole yet
-pub record IsEarly (r : Reading) : Type 0 where
-  pub short : length r.fed < 24
-  pub none : r.ready ≡ []
-  pub given : r.given ≡ 0
+pub record IsEarly (fed : List ℕ) (given : List Record) (r : Reading) : Type 0 where
+  pub form : Form
+  pub front : IsHeaderFront form fed
+  pub none_given : given ≡ []
+  pub none_ready : r.ready ≡ []
+  pub rest_is : r.rest ≡ fed
+  pub stage_is : r.stage ≡ new_stage
 
--- the whole records of what was fed are those given before and those ready
-pub record IsUnderWay (r : Reading) : Type 0 where
+-- the whole records of what was fed are those that were given and those that are ready
+pub record IsUnderWay (fed : List ℕ) (given : List Record) (r : Reading) : Type 0 where
+  pub form : Form
   pub records : List Stored
-  pub rest : List ℕ
-  pub splits : Splits little_micros r.fed records rest
-  pub partial : IsPartial rest
-  pub given_fits : r.given ≤ length records
-  pub ready_is : r.ready ≡ drop r.given (records_of micros records)
+  pub splits : Splits form fed records r.rest
+  pub partial : IsPartial form.order r.rest
+  pub records_are : given ++ r.ready ≡ records_of form.resolution records
+  pub form_is : r.stage.form ≡ Some form
+  pub place_is : r.stage.place + length r.rest ≡ length fed
+  pub clock_is : r.stage.clock ≡ clock_after_all form.resolution new_clock records
 
--- a reader without a fault has read what was fed to it
-abbrev pub IsReading : Reading → Type 0
-IsReading r = r.fault ≡ None → IsEarly r ⊎ IsUnderWay r
+-- These octets were fed to the reader, and it gave these records: it told no fault, and keeps of the octets the rest that
+-- isn't whole yet.
+abbrev pub HasRead : List ℕ → List Record → Reading → Type 0
+HasRead fed given r = (r.fault ≡ None) × (IsEarly fed given r ⊎ IsUnderWay fed given r)
+
+-- the reader read on in a piece
+abbrev pub Reads : List ℕ → Reading → Reading → Type 0
+Reads piece old new = (fed : List ℕ) (given : List Record) → HasRead fed given old → HasRead (fed ++ piece) given new
+
+-- the reader gave a record
+abbrev pub Gives : Record → Reading → Reading → Type 0
+Gives r old new = (fed : List ℕ) (given : List Record) → HasRead fed given old → HasRead fed (given ++ r ∷ []) new
 
 -- all that was fed is a capture, of which some records were given and the others are ready
-pub record IsWhole (r : Reading) : Type 0 where
+pub record IsWhole (fed : List ℕ) (given ready : List Record) : Type 0 where
+  pub form : Form
   pub records : List Stored
-  pub capture : IsCapture little_micros r.fed records
-  pub given_fits : r.given ≤ length records
-  pub ready_is : r.ready ≡ drop r.given (records_of micros records)
+  pub capture : IsCapture form fed records
+  pub records_are : given ++ ready ≡ records_of form.resolution records
 
--- why a fault came that wasn't there before: for want of memory, or at the first bad place of octets that no others
--- make a capture
-abbrev pub IsNewFault : CapFault → List ℕ → Type 0
-IsNewFault OutOfResources fed = Unit {0}
-IsNewFault (BadAt n) fed = IsBadPlace little_micros fed n × NeverCapture little_micros fed
+-- why a fault came: for want of memory, or at the first bad place of octets that no others make a capture
+abbrev pub IsNewFault : List ℕ → CapFault → Type 0
+IsNewFault fed OutOfResources = Unit {0}
+IsNewFault fed (BadAt n) = IsThePlace fed n × NeverCapture fed
 
 -- what was fed isn't a capture: the octet n is the first of what isn't whole
-pub record IsUnfinished (r : Reading) (e : CapFault) : Type 0 where
+pub record IsUnfinished (fed : List ℕ) (e : CapFault) : Type 0 where
   pub place : ℕ
   pub told : e ≡ BadAt place
-  pub bad : IsBadPlace little_micros r.fed place
-  pub none : (records : List Stored) → IsCapture little_micros r.fed records → ⊥
-
--- the end was refused for a fault that was there, or where what was fed isn't a capture
-abbrev pub IsRefused : Reading → CapFault → Type 0
-IsRefused r e = (r.fault ≡ Some e) ⊎ ((r.fault ≡ None) × IsUnfinished r e)
+  pub bad : IsThePlace fed place
+  pub none : (form : Form) (records : List Stored) → IsCapture form fed records → ⊥

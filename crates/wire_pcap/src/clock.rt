@@ -1,12 +1,10 @@
 //! The moments of a capture's records.
-ghost use Rattle.std.specs.Prelude.{◌≡◌, ◌≤◌, None, unwrap_or};
-ghost use Rattle.wire_pcap.specs.Grammar.{micros};
-ghost use Rattle.wire_pcap.specs.Steps.{clock_at};
+ghost use Rattle.std.specs.Prelude.{◌≡◌};
+ghost use Rattle.wire_pcap.specs.Steps.{new_clock, clock_at};
 
-/// Microseconds in a tick of a millisecond.
-const MICROS_PER_TICK: u64 = 1000;
+use crate::form::{Resolution, ticks_in};
 
-/// When the first record was heard, in microseconds, and the moment of the last one, in ticks.
+/// When the first record was heard, in units of the fraction, and the moment of the last one, in ticks.
 #[derive(Clone, Copy, Debug)]
 pub struct Clock {
     pub start: Option<u64>,
@@ -16,8 +14,7 @@ pub struct Clock {
 impl Clock {
     /// Before the first record.
     pub fn new() -> Clock
-        ensures start { result.start ≡ None }
-        ensures tick { result.tick ≡ 0 }
+        ensures { result ≡ new_clock }
     {
         Clock {
             start: None,
@@ -26,12 +23,12 @@ impl Clock {
     }
 }
 
-/// The clock after a record of this time, in microseconds.
-pub fn clock_at(clock: Clock, time: u64) -> Clock
-    ensures { result ≡ clock_at micros clock time }
+/// The clock after a record of this time, in units of the fraction.
+pub fn clock_at(resolution: Resolution, clock: Clock, time: u64) -> Clock
+    ensures { result ≡ clock_at resolution clock time }
 {
     let start = clock.start.unwrap_or(time);
-    let tick = time.saturating_sub(start) / MICROS_PER_TICK;
+    let tick = ticks_in(resolution, time.saturating_sub(start));
     Clock {
         start: Some(start),
         tick: clock.tick.max(tick),

@@ -1,25 +1,25 @@
 //! The reader of captures, which is fed their octets.
-ghost use Rattle.std.specs.Prelude.{◌≡◌, ◌⊎◌, ◌+◌, ℕ, List, [], ◌∷◌, ◌++◌, Some, None, Ok, Err, OnOk, OnErr, IfErr, IfSome, IfNone, MatchResult};
-ghost use Rattle.wire_pcap.specs.Grammar.{Stored, IsCapture, little_micros};
-ghost use Rattle.wire_pcap.specs.Place.{IsBadPlace, NeverCapture};
-ghost use Rattle.wire_pcap.specs.Reading.{Reading, IsReading, IsWhole, IsNewFault, IsRefused};
+ghost use Rattle.std.specs.Prelude.{◌≡◌, ◌⊎◌, ◌<◌, ℕ, List, [], ◌∷◌, ◌++◌, Some, None, Ok, Err, OnOk, IfErr, IfSome, IfNone};
+ghost use Rattle.efi_base.specs.declared.plain.Record.{Record};
+ghost use Rattle.wire_pcap.specs.Place.{IsCaptureFront};
+ghost use Rattle.wire_pcap.specs.Reading.{Reading, held, new_stage, stopped, HasRead, Reads, Gives, IsNewFault, IsWhole, IsUnfinished};
+ghost use Rattle.wire_pcap.specs.declared.fault.CapFault.{CapFault};
 
 use crate::clock::Clock;
 use crate::fault::CapFault;
-use crate::records::{Progress, read_on};
+use crate::stage::{Stage, read_piece};
 use efi_base::Record;
 use std::alloc::Global;
 use std::collections::VecDeque;
 use std::marker::Model;
 
-/// A reader of a little-endian capture in microseconds, which is fed its octets.
+/// A reader of a capture, which is fed its octets. It keeps those that aren't a whole record yet.
 #[derive(Drop)]
 pub struct PcapReader {
     alloc: Global,
     octets: Vec<u8>,
-    progress: Progress,
+    stage: Stage,
     ready: VecDeque<Record>,
-    given: u64,
     fault: Option<CapFault>,
 }
 
@@ -38,50 +38,51 @@ impl Model for PcapReader {
 impl PcapReader {
     /// A reader to which nothing was fed.
     pub fn new(alloc: Global) -> PcapReader
-        ensures empty { result ≡ record { fed = []; ready = []; given = 0; fault = None } }
-        ensures reading { IsReading result }
+        ensures empty { result ≡ record { stage = new_stage; rest = []; ready = []; fault = None } }
+        ensures reading { HasRead [] [] result }
     {
         PcapReader {
             alloc,
             octets: Vec::new(alloc),
-            progress: Progress {
-                at: 0,
+            stage: Stage {
+                form: None,
+                place: 0,
                 clock: Clock::new(),
             },
             ready: VecDeque::new(alloc),
-            given: 0,
             fault: None,
         }
     }
 
     /// Takes the next octets of the capture, and makes the records that are whole now.
     pub fn feed(&mut self, piece: &[u8]) -> Result<(), CapFault>
+        // Octets that go on to a capture are read, and those that can't are refused at once, with their place.
+        ensures ok { OnOk result ((self.old.fault ≡ None) × (self.new.fault ≡ None) × Reads piece.now self.old self.new) }
+        ensures front { OnOk result ((fed : List ℕ) (given : List Record) → HasRead fed given self.old → IsCaptureFront (fed ++ piece.now)) }
+        ensures cause { IfErr result (λ e. (fed : List ℕ) (given : List Record) → HasRead fed given self.old → IsNewFault (fed ++ piece.now) e) }
+
+        // A fault is told again for ever, and the reader keeps nothing else.
+        ensures fault { IfErr result (λ e. self.old.fault ≡ None → self.new ≡ stopped self.old e) }
         ensures told { (e : CapFault) → self.old.fault ≡ Some e → (result ≡ Err e) × (self.new ≡ self.old) }
-        ensures ok { OnOk result ((self.old.fault ≡ None) × (self.new.fault ≡ None)
-            × (self.new.fed ≡ self.old.fed ++ piece.now)) }
-        ensures fault { IfErr result (λ e. self.new.fault ≡ Some e) }
-        ensures cause { IfErr result (λ e. self.old.fault ≡ None → IsNewFault e (self.old.fed ++ piece.now)) }
-        ensures given { self.new.given ≡ self.old.given }
-        ensures reading { IsReading self.new }
+        ensures few { held self.new < 262160 }
     {
         if let Some(fault) = self.fault {
             return Err(fault);
         }
-        if self.octets.extend_from_slice(piece).is_err() {
-            self.fault = Some(CapFault::OutOfResources);
-            return Err(CapFault::OutOfResources);
-        }
-        match read_on(
+        match read_piece(
             self.alloc,
-            self.octets.as_slice(),
-            self.progress,
+            &mut self.octets,
+            piece,
+            self.stage,
             &mut self.ready,
         ) {
-            Ok(progress) => {
-                self.progress = progress;
+            Ok(stage) => {
+                self.stage = stage;
                 Ok(())
             }
             Err(fault) => {
+                self.octets.clear();
+                self.ready.clear();
                 self.fault = Some(fault);
                 Err(fault)
             }
@@ -90,35 +91,32 @@ impl PcapReader {
 
     /// Moves out the oldest record that is ready. After a fault there is none.
     pub fn take(&mut self) -> Option<Record>
-        ensures some { IfSome result (λ r. (self.old.fault ≡ None) × (self.old.ready ≡ r ∷ self.new.ready)
-            × (self.new.given ≡ self.old.given + 1)) }
-        ensures none { IfNone result (((self.old.ready ≡ []) ⊎ ((e : CapFault) × (self.old.fault ≡ Some e)))
-            × (self.new ≡ self.old)) }
-        ensures fed { self.new.fed ≡ self.old.fed }
+        ensures some { IfSome result (λ r. (self.old.ready ≡ r ∷ self.new.ready) × Gives r self.old self.new) }
+        ensures none { IfNone result ((self.old.ready ≡ []) × (self.new ≡ self.old)) }
         ensures fault { self.new.fault ≡ self.old.fault }
-        ensures reading { IsReading self.new }
+        ensures told { (e : CapFault) → self.old.fault ≡ Some e → result ≡ None }
+        ensures few { held self.new < 262160 }
     {
-        if let Some(_) = self.fault {
-            return None;
-        }
         let record = self.ready.pop_front()?;
-        self.given += 1;
         Some(record)
     }
 
     /// Whether all that was fed is a capture.
     pub fn finish(&self) -> Result<(), CapFault>
-        ensures whole { OnOk result ((self.now.fault ≡ None) × IsWhole self.now) }
-        ensures refused { IfErr result (IsRefused self.now) }
+        ensures whole { OnOk result ((self.now.fault ≡ None)
+            × ((fed : List ℕ) (given : List Record) → HasRead fed given self.now → IsWhole fed given self.now.ready)) }
+        ensures refused { IfErr result (λ e. (fed : List ℕ) (given : List Record) → HasRead fed given self.now → IsUnfinished fed e) }
+        ensures told { (e : CapFault) → self.now.fault ≡ Some e → result ≡ Err e }
     {
         if let Some(fault) = self.fault {
             return Err(fault);
         }
-        if self.progress.at < self.octets.len() {
-            return Err(CapFault::BadAt(self.progress.at as u64));
-        }
-        if self.progress.at == 0 {
+        if let None = self.stage.form {
             return Err(CapFault::BadAt(0));
+        }
+        let rest = self.octets.len();
+        if rest > 0 {
+            return Err(CapFault::BadAt(self.stage.place));
         }
         Ok(())
     }

@@ -1,12 +1,12 @@
-//! Reading on in the octets that were fed.
+//! Reading record after record in octets.
 ghost use Rattle.std.specs.Prelude.{◌≡◌, ◌+◌, ◌≤◌, length, take, drop, [], ◌∷◌, ◌++◌, OnOk, IfErr, MatchResult};
 ghost use Rattle.wire_pcap.specs.Reading.{IsPartial};
-ghost use Rattle.wire_pcap.specs.Stands.{GoesOn, Stops};
-ghost use Rattle.wire_pcap.specs.Steps.{MadeReady, IsCause};
+ghost use Rattle.wire_pcap.specs.Next.{MadeReady, IsCause};
 
 use crate::clock::{Clock, clock_at};
 use crate::fault::CapFault;
-use crate::head::{HEADER_LEN, Next, RECORD_HEAD_LEN, is_header, next_of};
+use crate::form::Form;
+use crate::head::{Next, RECORD_HEAD_LEN, next_of};
 use efi_base::{Bytes, Record, Tick};
 use std::alloc::Global;
 use std::collections::VecDeque;
@@ -45,24 +45,25 @@ fn make_record(
     }
 }
 
-/// Makes the whole records that stand behind a place.
-fn read_records(
+/// Makes the whole records that stand behind a place of the octets. The place of a bad one is counted from their first.
+pub fn read_records(
     alloc: Global,
+    form: Form,
     bytes: &[u8],
     from: Progress,
     ready: &mut VecDeque<Record>,
 ) -> Result<Progress, CapFault>
     requires { from.at ≤ length bytes.now }
-    ensures { MatchResult result (λ to. MadeReady bytes.now from to ready.old.items ready.new.items × IsPartial (drop to.at bytes.now))
-        (λ e. IsCause bytes.now from.at e) }
+    ensures { MatchResult result (λ to. MadeReady form bytes.now from to ready.old.items ready.new.items × IsPartial form.order (drop to.at bytes.now))
+        (λ e. IsCause form.order bytes.now from.at e) }
 {
     let mut at = from.at;
     let mut clock = from.clock;
     loop {
         let rest = &bytes[at..];
-        match next_of(rest) {
+        match next_of(form, rest) {
             Next::Whole(head) => {
-                clock = clock_at(clock, head.time);
+                clock = clock_at(form.resolution, clock, head.time);
                 make_record(alloc, rest, head.kept, clock.tick, ready)?;
                 at += RECORD_HEAD_LEN + head.kept;
             }
@@ -70,31 +71,4 @@ fn read_records(
             Next::Over => return Err(CapFault::BadAt(at as u64)),
         }
     }
-}
-
-/// Goes on from a place in all the octets that were fed: over the header, where it is still to come, and over the
-/// records.
-pub fn read_on(
-    alloc: Global,
-    bytes: &[u8],
-    from: Progress,
-    ready: &mut VecDeque<Record>,
-) -> Result<Progress, CapFault>
-    requires { from.at ≤ length bytes.now }
-    ensures { MatchResult result (λ to. GoesOn bytes.now from to ready.old.items ready.new.items) (Stops bytes.now from) }
-{
-    if from.at >= HEADER_LEN {
-        return read_records(alloc, bytes, from, ready);
-    }
-    if bytes.len() < HEADER_LEN {
-        return Ok(from);
-    }
-    if !is_header(bytes) {
-        return Err(CapFault::BadAt(0));
-    }
-    let behind = Progress {
-        at: HEADER_LEN,
-        clock: from.clock,
-    };
-    read_records(alloc, bytes, behind, ready)
 }

@@ -8,7 +8,8 @@ use Rattle.wire_http.specs.Fields.{Pair, is_none_or_one, are_none, is_sole_numbe
 use Rattle.wire_http.specs.Heads.{fields_of}
 use Rattle.wire_http.specs.Info.{HeadIs}
 use Rattle.wire_http.specs.Plain.{IsPlainWhole}
-use Rattle.wire_http.specs.Response.{IsWhole, HoldsBody}
+use Rattle.wire_http.specs.Body.{HoldsBody}
+use Rattle.wire_http.specs.Response.{IsWhole}
 
 three : (a b c : Bool) → IsTrue (a && (b && c)) → (b ≡ true) × (c ≡ true)
 three true true true h = (refl, refl)

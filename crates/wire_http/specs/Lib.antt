@@ -1,8 +1,14 @@
 pub mod Begun
+pub mod Body
 pub mod Chunked
+pub mod Feeding
 pub mod Fields
 pub mod Heads
+pub mod HostNames
 pub mod Info
 pub mod Plain
+pub mod Requests
 pub mod Response
+pub mod Stages
+pub mod Uris
 pub mod Walk

@@ -1,20 +1,49 @@
 //! HTTP responses as a client reads them.
 #![tactic(auto)]
 
+// The body behind a final head, read in pieces.
+mod bodies;
+// The line in front of a chunk.
+mod chunk_line;
 // What the fields of a head say.
 mod fields;
 // The head of a response.
 mod head;
+// Hosts: addresses and names.
+mod hosts;
+// What holds of the definitions.
+mod laws;
 // The lines of a head that isn't whole yet.
 mod lines;
 // The numbers of Content-Length.
 mod lengths;
 // The body of the plainest response.
 mod plain;
+// The request of a load.
+mod request;
+// Pieces of a body.
+mod runs;
+// What is kept of a body between two octets.
+mod stage;
 #[cfg(test)]
 mod tests;
 // Texts without case, and without the blanks around them.
 mod text;
+// The trailer of a body in chunks.
+mod trailer;
+// Why a text is no URI of a load.
+mod uri_fault;
+#[cfg(test)]
+mod uri_tests;
+// URIs of loads.
+mod uris;
 
+pub use bodies::{Body, BodyState, Fed};
 pub use head::{CodingField, Framing, Head, HeadInfo, read_head};
+pub use hosts::{Host, Name};
+pub use laws::{body_so_far_is_one, whole_is_not_bad, whole_is_one, whole_is_so_far, whole_stays};
 pub use plain::{MOST_HEAD, plain_body};
+pub use request::request_text;
+pub use stage::Part;
+pub use uri_fault::UriFault;
+pub use uris::{Uri, read_uri};

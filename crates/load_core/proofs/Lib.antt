@@ -1,0 +1,4 @@
+pub mod HeadRuns
+pub mod Readings
+pub mod Standing
+pub mod Meeting

@@ -1,0 +1,3 @@
+pub mod Final
+pub mod Met
+pub mod Taken

@@ -1,0 +1,16 @@
+//! Octets that are kept up to a limit.
+ghost use Rattle.std.specs.Prelude.{◌≡◌, ◌++◌, ℕ, List, take, OnOk};
+
+use efi_base::NoMemory;
+
+/// Puts as many octets behind those that are kept as the limit leaves.
+pub fn keep(kept: &mut Vec<u8>, most: usize, octets: &[u8]) -> Result<(), NoMemory>
+    ensures { (all : List ℕ) → kept.old.items ≡ take most all → OnOk result (kept.new.items ≡ take most (all ++ octets.now)) }
+{
+    let left = most.saturating_sub(kept.len());
+    let count = left.min(octets.len());
+    match kept.extend_from_slice(&octets[..count]) {
+        Ok(()) => Ok(()),
+        Err(_) => Err(NoMemory),
+    }
+}

@@ -1,0 +1,146 @@
+//! A response that comes in pieces: what a load finds in it, and its body, as far as that fits a buffer.
+ghost use Rattle.std.specs.Prelude.{◌≡◌, ◌+◌, ◌^◌, ◌≤◌, ◌++◌, ℕ, Bool, List, [], length, take, OnOk, IfOk};
+ghost use Rattle.wire_http.specs.Response.{IsWhole};
+ghost use Rattle.load_core.specs.Met.{IsFirstMet, HasLoadSoFar};
+ghost use Rattle.load_core.specs.Taken.{AtHeads, IsBehind, StandsAt, HasTaken};
+
+use crate::heads::{Found, find_final};
+use crate::kept::keep;
+use crate::met::{Met, case_of, length_by};
+use crate::reading::{Reading, read_first, read_piece, room_of, state_at};
+use efi_base::{Bytes, NoMemory};
+use std::alloc::Global;
+use wire_http::{MOST_HEAD, Part};
+
+/// How far a response is.
+#[derive(Clone, Copy, PartialEq, Eq, Debug)]
+enum Stage {
+    /// The final head isn't whole.
+    Heads,
+    /// There is none, whatever follows.
+    BadHead,
+    /// It is whole, and what follows it is read.
+    Behind(Reading),
+}
+
+/// A load of a response's body into a buffer.
+#[derive(Debug, Drop)]
+pub struct Load {
+    most: u32,
+    stage: Stage,
+    kept: Vec<u8>,
+    placed: Vec<u8>,
+}
+
+/// As many octets as all heads have at most.
+fn most_heads(kept: &[u8]) -> &[u8]
+    ensures most { length result.now ≤ MOST_HEAD }
+    ensures all { length kept.now ≤ MOST_HEAD → result.now ≡ kept.now }
+{
+    &kept[..kept.len().min(MOST_HEAD)]
+}
+
+/// Takes in a piece in front of which the final head isn't whole.
+fn take_heads(
+    kept: &mut Vec<u8>,
+    piece: &[u8],
+    most: u32,
+    placed: &mut Vec<u8>,
+) -> Result<Stage, NoMemory>
+    ensures { (stream : List ℕ) → AtHeads kept.old.items placed.old.items stream → length stream + length piece.now ≤ 2 ^ 62
+        → IfOk result (λ stage. StandsAt stage kept.new.items placed.new.items most (stream ++ piece.now)) }
+{
+    let before = kept.len();
+    keep(kept, MOST_HEAD, piece)?;
+    let taken = kept.len().saturating_sub(before).min(piece.len());
+    let heads = most_heads(kept.as_slice());
+    match find_final(heads) {
+        Found::Final(info, len) => match read_first(
+            info,
+            &heads[len..],
+            &piece[taken..],
+            most,
+            placed,
+        ) {
+            Ok(reading) => Ok(Stage::Behind(reading)),
+            Err(e) => Err(e),
+        },
+        Found::More if heads.len() < MOST_HEAD => Ok(Stage::Heads),
+        Found::More => Ok(Stage::BadHead),
+        Found::Bad => Ok(Stage::BadHead),
+    }
+}
+
+/// The first case that what follows the final head meets.
+fn met_behind(reading: Reading, fin: bool, most: u32) -> Option<Met>
+    ensures { (placed stream : List ℕ) → IsBehind reading placed most stream → IsFirstMet most stream fin result }
+{
+    let len = length_by(reading.info.framing, reading.count);
+    case_of(state_at(reading, fin), reading.info, len, most)
+}
+
+impl Load {
+    /// A load that has taken in nothing, with a buffer of so many octets. It takes no memory.
+    pub fn new(alloc: Global, most: u32) -> Load
+        ensures { HasTaken result most [] }
+    {
+        Load {
+            most,
+            stage: Stage::Heads,
+            kept: Vec::new(alloc),
+            placed: Vec::new(alloc),
+        }
+    }
+
+    /// Takes in the next octets of the stream. Where there is no memory the load is of no more use.
+    pub fn feed(&mut self, piece: &[u8]) -> Result<(), NoMemory>
+        ensures { (most : ℕ) → (stream : List ℕ) → HasTaken self.old most stream → length stream + length piece.now ≤ 2 ^ 62
+            → OnOk result (HasTaken self.new most (stream ++ piece.now)) }
+    {
+        match self.stage {
+            Stage::Heads => match take_heads(&mut self.kept, piece, self.most, &mut self.placed) {
+                Ok(stage) => self.stage = stage,
+                Err(e) => return Err(e),
+            },
+            Stage::BadHead => {}
+            Stage::Behind(mut reading) => {
+                let room = room_of(reading.info, self.most);
+                read_piece(&mut reading, piece, room, &mut self.placed)?;
+                self.stage = Stage::Behind(reading);
+            }
+        }
+        Ok(())
+    }
+
+    /// The first case that the stream meets, and None where it meets none yet; fin says that the stream is at its end.
+    pub fn met(&self, fin: bool) -> Option<Met>
+        ensures { (most : ℕ) → (stream : List ℕ) → HasTaken self.now most stream → IsFirstMet most stream fin result }
+    {
+        match self.stage {
+            Stage::Heads => None,
+            Stage::BadHead => Some(Met::BadResponse(Part::Head)),
+            Stage::Behind(reading) => met_behind(reading, fin, self.most),
+        }
+    }
+
+    /// The octets of the body that came, as far as they fit the buffer: with `Met::Success`, the body.
+    pub fn body(&self) -> &[u8]
+        ensures whole { (most : ℕ) → (stream : List ℕ) → HasTaken self.now most stream
+            → (fin : Bool) → (body : List ℕ) → IsWhole stream fin 200 body → length body ≤ most → result.now ≡ body }
+        ensures so_far { (most : ℕ) → (stream : List ℕ) → HasTaken self.now most stream → (octets : List ℕ)
+            → HasLoadSoFar stream octets → result.now ≡ take most octets }
+    {
+        self.placed.as_slice()
+    }
+
+    /// The same, without taking memory.
+    pub fn into_body(self) -> Bytes
+        ensures whole { (most : ℕ) → (stream : List ℕ) → HasTaken self most stream
+            → (fin : Bool) → (body : List ℕ) → IsWhole stream fin 200 body → length body ≤ most → result ≡ body }
+        ensures so_far { (most : ℕ) → (stream : List ℕ) → HasTaken self most stream → (octets : List ℕ)
+            → HasLoadSoFar stream octets → result ≡ take most octets }
+    {
+        let Load { placed, .. } = self;
+        Bytes::from_vec(placed)
+    }
+}

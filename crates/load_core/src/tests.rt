@@ -1,0 +1,199 @@
+//! Loads on cases from outside.
+ghost use Rattle.std.specs.Prelude.{◌<◌};
+
+use crate::{Load, Met};
+use std::alloc::Global;
+use std::process::Abort;
+use wire_http::{CodingField, Part};
+
+/// The buffer's length, the stream, whether it is at its end, what is met, and the octets placed.
+type Row<'a> = (u32, &'a [u8], bool, Option<Met>, &'a [u8]);
+
+/// Feeds a stream in pieces of so many octets, and compares what is met and placed.
+fn loads(rt: &impl Abort, alloc: Global, size: usize, row: &Row)
+    requires { 0 < size }
+{
+    let (most, stream, fin, met, body) = row;
+    let mut load = Load::new(alloc, *most);
+    for piece in stream.chunks(size) {
+        load.feed(piece).expect(rt, "memory for the piece");
+    }
+    assert_eq!(rt; load.met(*fin), *met, "in pieces of {size}");
+    assert_eq!(rt; load.body(), *body, "in pieces of {size}");
+    assert_eq!(rt; load.into_body().as_slice(), *body, "in pieces of {size}");
+}
+
+/// Feeds each stream in one piece, an octet at a time, and in pieces of three.
+fn each_loads(rt: &impl Abort, alloc: Global, rows: &[Row]) {
+    for row in rows {
+        loads(rt, alloc, 4_096, row);
+        loads(rt, alloc, 3, row);
+        loads(rt, alloc, 1, row);
+    }
+}
+
+#[test]
+fn every_case(rt: HostRuntime) {
+    let rows: [Row; 22] = [
+        (
+            5,
+            b"HTTP/1.1 200 OK\r\nContent-Length: 5\r\n\r\nhello",
+            false,
+            Some(Met::Success),
+            b"hello",
+        ),
+        (
+            5,
+            b"HTTP/1.1 200 OK\r\nContent-Length: 5\r\n\r\nhello, you",
+            false,
+            Some(Met::Success),
+            b"hello",
+        ),
+        (
+            4,
+            b"HTTP/1.1 200 OK\r\nContent-Length: 5\r\n\r\n",
+            false,
+            Some(Met::BufferTooSmall(5)),
+            b"",
+        ),
+        (
+            9,
+            b"HTTP/1.1 200 OK\r\nContent-Length: 5\r\n\r\nhell",
+            true,
+            None,
+            b"hell",
+        ),
+        (
+            0,
+            b"HTTP/1.1 200 OK\r\nContent-Length: 0\r\n\r\n",
+            false,
+            Some(Met::Success),
+            b"",
+        ),
+        (
+            9,
+            b"HTTP/1.1 100 Continue\r\n\r\nHTTP/1.1 200 OK\r\nContent-Length: 2\r\n\r\nhi",
+            false,
+            Some(Met::Success),
+            b"hi",
+        ),
+        (
+            9,
+            b"HTTP/1.1 103 Early Hints\r\nLink: a\r\n\r\nHTTP/1.1 404 None\r\n\r\n",
+            false,
+            Some(Met::HttpStatus(404)),
+            b"",
+        ),
+        (
+            9,
+            b"HTTP/1.1 101 Switching\r\n\r\n",
+            false,
+            Some(Met::HttpStatus(101)),
+            b"",
+        ),
+        (
+            9,
+            b"HTTP/1.1 100 Continue\r\n\r\nHTTQ",
+            false,
+            Some(Met::BadResponse(Part::Head)),
+            b"",
+        ),
+        (9, b"HTTP/1.1 200 OK\r\nContent-Length: 5", true, None, b""),
+        (9, b"", true, None, b""),
+        (
+            9,
+            b"HTTP/1.1 200 OK\r\nContent-Length: 5, 6\r\n\r\n",
+            false,
+            Some(Met::BadResponse(Part::Length)),
+            b"",
+        ),
+        (
+            9,
+            b"HTTP/1.1 404 None\r\nTransfer-Encoding: chunked\r\n\r\nx",
+            false,
+            Some(Met::BadResponse(Part::Chunk)),
+            b"",
+        ),
+        (
+            9,
+            b"HTTP/1.1 200 OK\r\nTransfer-Encoding: chunked\r\n\r\n2\r\nhi\r\n0\r\n:\r\n",
+            false,
+            Some(Met::BadResponse(Part::Trailer)),
+            b"hi",
+        ),
+        (
+            9,
+            b"HTTP/1.1 200 OK\r\nTransfer-Encoding: chunked\r\n\r\n2\r\nhi\r\n1;a\r\n!\r\n0\r\n\r\n",
+            false,
+            Some(Met::Success),
+            b"hi!",
+        ),
+        (
+            2,
+            b"HTTP/1.1 200 OK\r\nTransfer-Encoding: chunked\r\n\r\n2\r\nhi\r\n2\r\n!",
+            false,
+            Some(Met::BufferTooSmall(3)),
+            b"hi",
+        ),
+        (
+            2,
+            b"HTTP/1.1 200 OK\r\nTransfer-Encoding: chunked\r\n\r\n2\r\nhi\r\n1\r\n!!",
+            false,
+            Some(Met::BadResponse(Part::Chunk)),
+            b"hi",
+        ),
+        (
+            9,
+            b"HTTP/1.1 200 OK\r\n\r\nall of it",
+            false,
+            None,
+            b"all of it",
+        ),
+        (
+            9,
+            b"HTTP/1.1 200 OK\r\n\r\nall of it",
+            true,
+            Some(Met::Success),
+            b"all of it",
+        ),
+        (
+            8,
+            b"HTTP/1.1 200 OK\r\n\r\nall of it",
+            true,
+            Some(Met::BufferTooSmall(9)),
+            b"all of i",
+        ),
+        (
+            9,
+            b"HTTP/1.1 200 OK\r\nContent-Encoding: gzip\r\nContent-Length: 2\r\n\r\nhi",
+            false,
+            Some(Met::Coding(CodingField::Content)),
+            b"",
+        ),
+        (
+            9,
+            b"HTTP/1.1 200 OK\r\nTransfer-Encoding: gzip\r\n\r\nhi",
+            true,
+            Some(Met::Coding(CodingField::Transfer)),
+            b"",
+        ),
+    ];
+    each_loads(&rt, rt.alloc(), &rows);
+}
+
+/// Feeds a piece so many times.
+fn feeds(rt: &impl Abort, load: &mut Load, piece: &[u8], times: usize) {
+    for _ in 0..times {
+        load.feed(piece).expect(rt, "memory for the piece");
+    }
+}
+
+#[test]
+fn heads_end_at_the_limit(rt: HostRuntime) {
+    let mut load = Load::new(rt.alloc(), 9);
+    feeds(&rt, &mut load, &[b'\n'; 64], 255);
+    feeds(&rt, &mut load, b"\n", 63);
+    assert_eq!(rt; load.met(true), None);
+    feeds(&rt, &mut load, b"\n", 1);
+    assert_eq!(rt; load.met(false), Some(Met::BadResponse(Part::Head)));
+}

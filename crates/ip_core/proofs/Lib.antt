@@ -1,0 +1,6 @@
+pub mod Best
+pub mod Closing
+pub mod Filling
+pub mod Joining
+pub mod Standings
+pub mod Records

@@ -1,0 +1,10 @@
+pub mod CaptureLaw
+pub mod GrammarCases
+pub mod GrammarLaw
+pub mod GrammarParts
+pub mod GrammarRules
+pub mod GrammarSteps
+pub mod GrammarValues
+pub mod GrammarWords
+pub mod LineLaw
+pub mod NumberLaw

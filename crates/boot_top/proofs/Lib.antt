@@ -1,3 +1,2 @@
-pub mod Frames
-pub mod Order
-pub mod Parts
+pub mod Inputs
+pub mod Successes

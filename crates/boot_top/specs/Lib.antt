@@ -1,6 +1,3 @@
-pub mod Arrival
-pub mod Command
+pub mod Answers
+pub mod Commands
 pub mod Extract
-pub mod First
-pub mod Following
-pub mod Seen

@@ -1,21 +1,20 @@
 //! The program's work: its command line, and the image that a capture of a download shows.
 #![tactic(auto)]
 
-// TCP segments in Ethernet frames
-mod arrival;
-// the command line
-mod command;
-// the stream of segments that come in order, and the response in it
-mod download;
-// a capture, read passively
-mod extract;
-// the segments that a station heard from its peer
-mod heard;
-// the segment that asks for the connection
-mod opening;
-// the top call
+// the command that takes the image out of a capture
+mod image;
+// the records of a capture, or the place at which it is none
+mod input;
+// the exit statuses
+mod status;
 #[cfg(test)]
 mod tests;
+// the top call
 mod top;
 
-pub use top::{BAD_WORDS, NO_MEMORY, NOT_BUILT, SINK_FAILED, SOURCE_FAILED, SUCCESS, run};
+pub use boot_words::capture_name;
+pub use status::{
+    BAD_INPUT, BAD_WORDS, ENDED_OTHERWISE, NO_MEMORY, NOT_BUILT, SINK_FAILED, SOURCE_FAILED,
+    SUCCESS, TOO_LONG,
+};
+pub use top::run;

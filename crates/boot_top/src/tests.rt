@@ -1,5 +1,7 @@
 //! What the top call answers over memory sources and sinks. The captures were made by another program.
-use crate::{NOT_BUILT, SINK_FAILED, SOURCE_FAILED, SUCCESS, run};
+use crate::{
+    BAD_INPUT, BAD_WORDS, ENDED_OTHERWISE, NOT_BUILT, SINK_FAILED, SOURCE_FAILED, SUCCESS, run,
+};
 use efi_base::{DropSink, MemSink, MemSource};
 use std::alloc::Global;
 use std::process::Abort;
@@ -49,29 +51,31 @@ const MISPLACED: &str = "\
     08004500004f00020000400666a50a0000010a0000020050c001000003ea000100015018ffffe7650000485454502f31\
     2e3120323030204f4b0d0a436f6e74656e742d4c656e6774683a20310d0a0d0a41";
 
-/// A run of `extract`: the capture in hexadecimal, how many of its octets are there, whether its magic number is that of
+/// A run of `extract`: its words, the capture in hexadecimal, how many of its octets are there, whether its magic number is that of
 /// the other byte order, the numbers of the failing first read and write, and what is wanted.
 #[derive(Clone, Copy)]
 struct Case {
     name: &'static str,
+    words: &'static str,
     capture: &'static str,
     length: usize,
     other_order: bool,
     failing_read: u64,
     failing_write: u64,
     status: u8,
-    image: &'static str,
+    output: &'static str,
 }
 
 const PLAIN: Case = Case {
     name: "a plain capture",
+    words: "extract",
     capture: FIRST,
     length: 273,
     other_order: false,
     failing_read: 0,
     failing_write: 0,
     status: SUCCESS,
-    image: "A",
+    output: "A",
 };
 
 fn digit(code: u8) -> u8 {
@@ -95,6 +99,15 @@ fn from_hex(alloc: Global, text: &str) -> Result<Vec<u8>, Fail> {
     Ok(octets)
 }
 
+/// The words between blanks.
+fn words_of(alloc: Global, text: &str) -> Result<Vec<String>, Fail> {
+    let mut words = Vec::new(alloc);
+    for word in text.split(' ') {
+        words.push(String::from_str(alloc, word)?)?;
+    }
+    Ok(words)
+}
+
 fn check<R: Abort + AllocGlobal>(rt: &R, case: &Case) -> Result<(), Fail> {
     let alloc = rt.alloc();
     let mut octets = from_hex(alloc, case.capture)?;
@@ -102,15 +115,14 @@ fn check<R: Abort + AllocGlobal>(rt: &R, case: &Case) -> Result<(), Fail> {
     if case.other_order && octets.len() >= 4 {
         octets[..4].copy_from_slice(&[0xA1, 0xB2, 0xC3, 0xD4]);
     }
-    let mut words = Vec::new(alloc);
-    words.push(String::from_str(alloc, "extract")?)?;
+    let words = words_of(alloc, case.words)?;
     let mut src = MemSource::new(octets, vec![in alloc; case.failing_read]?);
     let mut out = MemSink::new(alloc, vec![in alloc; case.failing_write]?);
     let mut cap = DropSink;
     let status = run(alloc, &words, &mut src, &mut out, &mut cap);
     let name = case.name;
     assert_eq!(rt; status, case.status, "{name}");
-    assert_eq!(rt; out.octets(), case.image.as_bytes(), "{name}");
+    assert_eq!(rt; out.octets(), case.output.as_bytes(), "{name}");
     Ok(())
 }
 
@@ -119,59 +131,71 @@ fn answers_by_the_table(rt: HostRuntime) -> Result<(), Fail> {
     let cases = [
         PLAIN,
         Case {
-            name: "the other byte order",
+            name: "the magic number of the other byte order",
             other_order: true,
-            status: NOT_BUILT,
-            image: "",
+            status: BAD_INPUT,
+            output: "bad input at 0\n",
             ..PLAIN
         },
         Case {
             name: "no response",
             length: 164,
-            status: NOT_BUILT,
-            image: "",
+            status: ENDED_OTHERWISE,
+            output: "",
             ..PLAIN
         },
         Case {
             name: "an incomplete record",
             length: 272,
-            status: NOT_BUILT,
-            image: "",
+            status: BAD_INPUT,
+            output: "bad input at 164\n",
+            ..PLAIN
+        },
+        Case {
+            name: "a buffer that just holds the image",
+            words: "extract --buffer=1 --emit image",
+            ..PLAIN
+        },
+        Case {
+            name: "a buffer that is too short",
+            words: "extract --buffer 0",
+            status: ENDED_OTHERWISE,
+            output: "",
             ..PLAIN
         },
         Case {
             name: "the first write fails",
             failing_write: 1,
             status: SINK_FAILED,
-            image: "",
+            output: "",
             ..PLAIN
         },
         Case {
             name: "the first read fails",
             failing_read: 1,
             status: SOURCE_FAILED,
-            image: "",
+            output: "",
             ..PLAIN
         },
         Case {
             name: "numbers that pass 2^32",
             capture: WRAP,
             length: 653,
-            image: "ABCDEFGHIJKLMNOPQRSTUVWXYZ[\\]^",
+            output: "ABCDEFGHIJKLMNOPQRSTUVWXYZ[\\]^",
             ..PLAIN
         },
         Case {
             name: "another status",
             capture: NOT_FOUND,
-            status: NOT_BUILT,
-            image: "",
+            status: ENDED_OTHERWISE,
+            output: "",
             ..PLAIN
         },
         Case {
             name: "a segment ahead of its place",
             capture: MISPLACED,
-            status: NOT_BUILT,
-            image: "",
+            status: ENDED_OTHERWISE,
+            output: "",
             ..PLAIN
         },
     ];
@@ -182,16 +206,24 @@ fn answers_by_the_table(rt: HostRuntime) -> Result<(), Fail> {
 }
 
 #[test]
-fn refuses_other_words(rt: HostRuntime) -> Result<(), Fail> {
+fn reads_nothing_for_other_words(rt: HostRuntime) -> Result<(), Fail> {
     let alloc = rt.alloc();
-    for word in ["boot", "extrac", "extract "] {
-        let mut words = Vec::new(alloc);
-        words.push(String::from_str(alloc, word)?)?;
+    for (text, want) in [
+        ("", BAD_WORDS),
+        ("extrac", BAD_WORDS),
+        ("extract extract", BAD_WORDS),
+        ("make", BAD_WORDS),
+        ("extract --emit report", NOT_BUILT),
+        ("boot --capture x", NOT_BUILT),
+        ("make --seed 1", NOT_BUILT),
+    ] {
+        let words = words_of(alloc, text)?;
         let mut src = MemSource::new(from_hex(alloc, FIRST)?, Vec::new(alloc));
         let mut out = MemSink::new(alloc, Vec::new(alloc));
         let status = run(alloc, &words, &mut src, &mut out, &mut DropSink);
-        assert_eq!(rt; status, 2, "{word}");
-        assert_eq!(rt; src.octets().len(), 273, "{word}");
+        assert_eq!(rt; status, want, "{text}");
+        assert_eq!(rt; src.octets().len(), 273, "{text}");
+        assert!(rt; out.octets().is_empty(), "{text}");
     }
     Ok(())
 }

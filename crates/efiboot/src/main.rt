@@ -1,8 +1,8 @@
 //! The program: its words, standard input and standard output around the top call. What they mean isn't here.
 #![tactic(auto)]
 
-use boot_top::{BAD_WORDS, NO_MEMORY, run};
-use efi_base::{DropSink, StdSink, StdSource};
+use boot_top::{BAD_WORDS, NO_MEMORY, capture_name, run};
+use efi_base::{DropSink, FileSink, StdSink, StdSource};
 use std::process::ExitCode;
 use std::rt::Env;
 use std::{env, io};
@@ -14,8 +14,24 @@ fn main(rt: HostRuntime) -> ExitCode {
     };
     let mut src = StdSource::new(rt.stdin());
     let mut out = StdSink::new(rt.stdout());
-    let mut cap = DropSink;
-    ExitCode::from(run(rt.alloc(), &words, &mut src, &mut out, &mut cap))
+    let alloc = rt.alloc();
+    let status = match capture_file(&words) {
+        Some(name) => run(
+            alloc,
+            &words,
+            &mut src,
+            &mut out,
+            &mut FileSink::new(&rt, name),
+        ),
+        None => run(alloc, &words, &mut src, &mut out, &mut DropSink),
+    };
+    ExitCode::from(status)
+}
+
+/// The name of the file that the capture goes to, if the words name one. It is made at the first write to it.
+fn capture_file(words: &Vec<String>) -> Option<&str> {
+    let word = words.get(capture_name(words)?)?.as_str();
+    Some(word.strip_prefix("--capture=").unwrap_or(word))
 }
 
 /// The words after the program's name.

@@ -1,3 +1,4 @@
 pub mod Filling
 pub mod Known
 pub mod Sums
+pub mod Written

@@ -4,4 +4,5 @@ pub mod Checksum
 pub mod Intake
 pub mod Memory
 pub mod Reads
+pub mod Refusals
 pub mod Writes

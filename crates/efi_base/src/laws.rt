@@ -1,8 +1,10 @@
-//! What holds of the Internet checksum (RFC 1071): each law is the contract of a function that does nothing. Writers
-//! stand on the first, and readers that refuse a wrong checksum have the second for it.
-ghost use Rattle.std.specs.Prelude.{◌≡◌, ℕ, ◌%◌, ◌++◌, List, length};
+//! What holds of the Internet checksum (RFC 1071) and of what writers do: each law is the contract of a function that does
+//! nothing. Writers stand on the first, and readers that refuse a wrong checksum have the second for it.
+ghost use Rattle.std.specs.Prelude.{◌≡◌, ℕ, ◌%◌, ◌++◌, List, Result, length, take, IfOk};
 ghost use Rattle.byteorder.specs.Endian.{big_number, big_bytes};
 ghost use Rattle.efi_base.specs.Checksum.{checksum_of, AreOctets};
+ghost use Rattle.efi_base.specs.Writes.{Writes};
+ghost use Rattle.efi_base.specs.declared.fault.NoRoom.{NoRoom};
 
 /// Octets in which the two of the checksum were 0, and then were filled in with it, sum to all ones; so they do where
 /// the checksum is 0 and all ones are filled in.
@@ -20,4 +22,10 @@ pub fn changed_word_is_seen()
         → length front % 2 ≡ 0 → length one ≡ 2 → length other ≡ 2
         → checksum_of (front ++ (one ++ back)) ≡ checksum_of (front ++ (other ++ back))
         → big_number 2 one % 65535 ≡ big_number 2 other % 65535 }
+{}
+
+/// What a writer wrote stands in front of the room, as long as the writer said.
+pub fn written_text_is_in_front()
+    ensures { (text old : List ℕ) → (result : Result ℕ NoRoom) → (now : List ℕ) → Writes text old result now
+        → IfOk result (λ n. take n now ≡ text) }
 {}

@@ -9,6 +9,13 @@ pub struct Mac(pub [u8; 6]);
 #[derive(Clone, Copy, PartialEq, Eq, Debug)]
 pub struct Ip4(pub u32);
 
+/// The peer of a connection: its address and port.
+#[derive(Clone, Copy, PartialEq, Eq, Debug)]
+pub struct Peer {
+    pub addr: Ip4,
+    pub port: u16,
+}
+
 /// A moment, in ticks of one millisecond.
 #[derive(Clone, Copy, PartialEq, Eq, Debug)]
 pub struct Tick(pub u64);

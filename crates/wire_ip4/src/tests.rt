@@ -11,6 +11,17 @@ const SERVER: Ip4 = Ip4(0x0A00_0001);
 const PACKET: [u8; 46] = *b"\x45\0\0\x28\0\x01\0\0\x40\x06\x66\xcd\x0a\0\0\x02\x0a\0\0\x01\
     \0\0\0\0\0\0\0\0\0\0\0\0\0\0\0\0\0\0\0\0\xee\xee\xee\xee\xee\xee";
 
+/// Packets of a capture, whole.
+const OPENING: &[u8] = b"\x45\0\0\x28\0\x01\0\0\x40\x06\x66\xcd\x0a\0\0\x02\x0a\0\0\x01\
+    \xc0\x01\0\x50\0\x01\0\0\0\0\0\0\x50\x02\xff\xff\xdb\x8d\0\0";
+
+const ACCEPTING: &[u8] = b"\x45\0\0\x28\0\x01\0\0\x40\x06\x66\xcd\x0a\0\0\x01\x0a\0\0\x02\
+    \0\x50\xc0\x01\0\0\x03\xe8\0\x01\0\x01\x50\x12\xff\xff\xd7\x94\0\0";
+
+const SENDING: &[u8] = b"\x45\0\0\x4f\0\x02\0\0\x40\x06\x66\xa5\x0a\0\0\x01\x0a\0\0\x02\
+    \0\x50\xc0\x01\0\0\x03\xe9\0\x01\0\x01\x50\x18\xff\xff\xe7\x66\0\0\
+    HTTP/1.1 200 OK\r\nContent-Length: 1\r\n\r\nA";
+
 /// A fragment with four octets of options, and one that may not be cut further.
 const FRAGMENT: &[u8] =
     b"\x46\0\0\x1c\x12\x34\x20\x0b\x40\x11\x31\x8e\x0a\0\0\x01\x0a\0\0\x02\x01\x01\x01\x01data";
@@ -44,25 +55,44 @@ fn reads_packets(rt: HostRuntime) {
         ttl: 64,
         payload: &[0; 20],
     };
-    assert_eq!(rt; read_ip(&PACKET), Ok(packet));
-    let fragment = Ip {
+    let opening = Ip {
+        payload: &OPENING[20..],
+        ..packet
+    };
+    let accepting = Ip {
         src: SERVER,
         dest: CLIENT,
+        payload: &ACCEPTING[20..],
+        ..packet
+    };
+    let sending = Ip {
+        id: 2,
+        payload: &SENDING[20..],
+        ..accepting
+    };
+    let fragment = Ip {
         proto: 17,
         id: 0x1234,
-        df: false,
         mf: true,
         place: 88,
-        ttl: 64,
         payload: b"data",
+        ..accepting
     };
-    assert_eq!(rt; read_ip(FRAGMENT), Ok(fragment));
     let whole = Ip {
         df: true,
         mf: false,
         ..fragment
     };
-    assert_eq!(rt; read_ip(WHOLE), Ok(whole));
+    for (what, bytes, there) in [
+        ("padding", &PACKET[..], packet),
+        ("an opening", OPENING, opening),
+        ("its answer", ACCEPTING, accepting),
+        ("data", SENDING, sending),
+        ("options, and more fragments", FRAGMENT, fragment),
+        ("options, and no fragments", WHOLE, whole),
+    ] {
+        assert_eq!(rt; read_ip(bytes), Ok(there), "{what}");
+    }
 }
 
 #[test]

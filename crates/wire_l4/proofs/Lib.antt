@@ -5,4 +5,3 @@ pub mod Parts
 pub mod Segments
 pub mod Spelled
 pub mod Walking
-pub mod Written

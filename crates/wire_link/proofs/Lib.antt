@@ -1,5 +1,5 @@
 pub mod Addresses
 pub mod Again
+pub mod Alone
 pub mod Padding
 pub mod Spelled
-pub mod Written

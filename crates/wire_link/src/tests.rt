@@ -7,8 +7,19 @@ const CLIENT: Mac = Mac([2, 0, 0, 0, 0, 1]);
 
 const SERVER: Mac = Mac([2, 0, 0, 0, 0, 2]);
 
-/// The header of a frame to the server, and the first word of its packet.
-const FRAME: &[u8] = b"\x02\0\0\0\0\x02\x02\0\0\0\0\x01\x08\x00\x45\0\0\x28";
+/// The frames of a capture: a station opens a connection, the server accepts it, and sends an image of one octet.
+const OPENING: &[u8] = b"\x02\0\0\0\0\x02\x02\0\0\0\0\x01\x08\0\
+    \x45\0\0\x28\0\x01\0\0\x40\x06\x66\xcd\x0a\0\0\x02\x0a\0\0\x01\
+    \xc0\x01\0\x50\0\x01\0\0\0\0\0\0\x50\x02\xff\xff\xdb\x8d\0\0";
+
+const ACCEPTING: &[u8] = b"\x02\0\0\0\0\x01\x02\0\0\0\0\x02\x08\0\
+    \x45\0\0\x28\0\x01\0\0\x40\x06\x66\xcd\x0a\0\0\x01\x0a\0\0\x02\
+    \0\x50\xc0\x01\0\0\x03\xe8\0\x01\0\x01\x50\x12\xff\xff\xd7\x94\0\0";
+
+const SENDING: &[u8] = b"\x02\0\0\0\0\x01\x02\0\0\0\0\x02\x08\0\
+    \x45\0\0\x4f\0\x02\0\0\x40\x06\x66\xa5\x0a\0\0\x01\x0a\0\0\x02\
+    \0\x50\xc0\x01\0\0\x03\xe9\0\x01\0\x01\x50\x18\xff\xff\xe7\x66\0\0\
+    HTTP/1.1 200 OK\r\nContent-Length: 1\r\n\r\nA";
 
 /// A frame that asks everyone for the address of 10.0.0.1.
 const REQUEST_FRAME: [u8; 60] = *b"\xff\xff\xff\xff\xff\xff\x02\0\0\0\0\x01\x08\x06\
@@ -37,15 +48,22 @@ const ANSWERED: Arp = Arp {
 
 #[test]
 fn reads_frames(rt: HostRuntime) {
-    let frame = Ether {
-        dest: SERVER,
-        src: CLIENT,
-        proto: 0x0800,
-        payload: &FRAME[14..],
-    };
-    assert_eq!(rt; read_ether(FRAME), Ok(frame));
-    assert!(rt; read_ether(&FRAME[..14]).is_ok());
-    assert!(rt; read_ether(&FRAME[..13]).is_err());
+    for (bytes, dest, src, size) in [
+        (OPENING, SERVER, CLIENT, 40),
+        (ACCEPTING, CLIENT, SERVER, 40),
+        (SENDING, CLIENT, SERVER, 79),
+        (&OPENING[..14], SERVER, CLIENT, 0),
+    ] {
+        let frame = Ether {
+            dest,
+            src,
+            proto: 0x0800,
+            payload: &bytes[14..],
+        };
+        assert_eq!(rt; read_ether(bytes), Ok(frame));
+        assert_eq!(rt; frame.payload.len(), size);
+    }
+    assert!(rt; read_ether(&OPENING[..13]).is_err());
 }
 
 #[test]

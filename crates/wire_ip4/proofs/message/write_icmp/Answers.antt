@@ -5,7 +5,7 @@ use Rattle.efi_base.specs.Writes.{Writes}
 use Rattle.wire_ip4.specs.Message.{IsMessage, front_text, message_of, message_text}
 use Rattle.wire_ip4.specs.Seen.{message_seen}
 use Rattle.wire_ip4.proofs.Again.{message-again}
-use Rattle.wire_ip4.proofs.Written.{front-read}
+use Rattle.efi_base.proofs.Written.{front-read}
 use Rattle.wire_ip4.proofs.message.write_icmp.Goals as goal
 
 pub returns-clause-again : goal.returns-clause-again

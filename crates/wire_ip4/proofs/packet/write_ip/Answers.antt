@@ -6,7 +6,7 @@ use Rattle.efi_base.specs.Writes.{Writes}
 use Rattle.wire_ip4.specs.Packet.{header_text, packet_of, packet_text}
 use Rattle.wire_ip4.specs.Seen.{packet_seen}
 use Rattle.wire_ip4.proofs.Again.{packet-again}
-use Rattle.wire_ip4.proofs.Written.{front-read}
+use Rattle.efi_base.proofs.Written.{front-read}
 use Rattle.wire_ip4.proofs.packet.write_ip.Goals as goal
 
 pub returns-clause-again : goal.returns-clause-again

@@ -4,7 +4,7 @@ use Rattle.wire_link.specs.Ether.{IsFrame, frame_of, frame_text, padded}
 use Rattle.wire_link.specs.Seen.{frame_seen}
 use Rattle.wire_link.proofs.Again.{frame-again}
 use Rattle.wire_link.proofs.Padding.{frame-written, room-short}
-use Rattle.wire_link.proofs.Written.{front-read}
+use Rattle.efi_base.proofs.Written.{front-read}
 use Rattle.wire_link.proofs.frame.write_ether.Goals as goal
 
 pub returns-then-room-lt-LEAST-clause-written : goal.returns-then-room-lt-LEAST-clause-written

@@ -4,7 +4,8 @@ use Rattle.std.proofs.lemmas.List.{append-nil}
 use Rattle.wire_link.specs.Arp.{message_of, message_text}
 use Rattle.wire_link.specs.Seen.{message_seen}
 use Rattle.wire_link.proofs.Again.{message-again}
-use Rattle.wire_link.proofs.Written.{front-read, header-alone}
+use Rattle.efi_base.proofs.Written.{front-read}
+use Rattle.wire_link.proofs.Alone.{header-alone}
 use Rattle.wire_link.proofs.resolution.write_arp.Goals as goal
 
 pub returns-clause-written : goal.returns-clause-written

@@ -1,3 +1,4 @@
-pub mod Fronts
+pub mod Cells
 pub mod Parts
-pub mod Puts
+pub mod Rounds
+pub mod Words

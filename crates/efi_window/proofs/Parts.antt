@@ -1,8 +1,8 @@
 -- The part of some bytes that a window keeps.
-use Rattle.std.proofs.Common.{◌≡◌, ℕ, ◌+◌, ◌-◌, ◌^◌, ◌<◌, ◌≤◌, ◌==◌, min, max, Bool, false, true, List, [], ◌∷◌, length, take, drop, Option, refl, ap, arith}
+use Rattle.std.proofs.Common.{◌≡◌, ℕ, ◌+◌, ◌-◌, ◌*◌, ◌^◌, ◌<◌, ◌≤◌, ◌==◌, min, max, Bool, false, true, List, [], ◌∷◌, length, take, drop, Option, refl, ap, arith}
 use Rattle.std.proofs.lemmas.List.{length-take}
 use Rattle.std.proofs.lemmas.Bool.Decides.{nat_tests}
-use Rattle.efi_window.specs.Places.{Places, put, held_after, after_put}
+use Rattle.efi_window.specs.Places.{Places, put, held_after, after_put, after_take}
 
 -- a window after a put whose numbers were found one by one
 pub put-window : (room cap taken place first edge most : ℕ) (bytes part : List ℕ) (items now : List (Option ℕ))
@@ -27,3 +27,13 @@ part-some (b ∷ part) empty e f = omega arith
 pub part-none : (part : List ℕ) (empty : Bool) → empty ≡ (length part == 0) → empty ≡ true → part ≡ []
 part-none [] empty e f = refl
 part-none (b ∷ part) empty e f = absurd (grind (arith, nat_tests))
+
+-- a window after a take whose slots were found by themselves
+pub taken-window : (room cap taken count : ℕ) (items now : List (Option ℕ)) → now ≡ drop count items
+    → record { room = room; cap = cap; taken = taken + count; held = now } ≡ after_take record { room = room; cap = cap; taken = taken; held = items } count
+taken-window room cap taken count items now e =
+    let view : List (Option ℕ) → Places = λ l. record { room = room; cap = cap; taken = taken + count; held = l } in
+    ap view e
+
+pub enough : (room new old : ℕ) → new ≡ old → room ≤ 64 * old → room ≤ 64 * new
+enough room new old e h = omega arith

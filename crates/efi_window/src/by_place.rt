@@ -1,9 +1,11 @@
 //! The window.
-ghost use Rattle.std.specs.Prelude.{◌≡◌, ◌+◌, ◌-◌, ◌^◌, ◌≤◌, ◌++◌, ℕ, min, length, take, drop, IfOk, is_none};
+ghost use Rattle.std.specs.Prelude.{◌≡◌, ◌+◌, ◌-◌, ◌^◌, ◌≤◌, ◌++◌, ℕ, min, length, take, drop, IfOk, is_none, false, vec_len, ◌*◌};
+ghost use Rattle.efi_window.specs.Kept.{is_kept};
 ghost use Rattle.std.specs.List.{list_all};
 ghost use Rattle.efi_window.specs.Places.{Places, fresh, ready_of, after_put, after_take};
 
-use crate::slots::{copy_front, count_front, is_free_from, put_all, shift};
+use crate::bits::WORD;
+use crate::ring::{copy, free, put, run};
 use efi_base::NoMemory;
 use std::alloc::Global;
 use std::marker::Model;
@@ -12,22 +14,28 @@ use std::marker::Model;
 const END_OF_PLACES: u64 = 1 << 62;
 
 /// Bytes by place, from the first one that wasn't taken up to the window's edge. Places count octets.
+///
+/// They stand in a ring, each at its place modulo the ring's length, so what stays is never moved. A bit says whether a
+/// place is kept. `span` counts the places from the first one that wasn't taken up to the last byte.
 #[derive(Debug, Drop)]
 pub struct Window {
     room: u32,
     cap: u32,
     taken: u64,
-    slots: Vec<Option<u8>>,
+    span: u64,
+    ring: Vec<u8>,
+    words: Vec<u64>,
 }
 
 impl Model for Window {
     ghost use Rattle.efi_window.specs.Places.{Places};
+    ghost use Rattle.efi_window.specs.Kept.{slots};
 
     ghost Value = { Places };
 
     ghost use Rattle.efi_window.specs.Inside.{IsWindow};
 
-    ghost view = { λ w. record { room = w.room; cap = w.cap; taken = w.taken; held = w.slots.items } };
+    ghost view = { λ w. record { room = w.room; cap = w.cap; taken = w.taken; held = slots w.room w.ring.items w.words.items w.taken w.span } };
 
     ghost invariant = { IsWindow };
 }
@@ -37,14 +45,15 @@ impl Window {
     pub fn open(alloc: Global, cap: u32) -> Result<Window, NoMemory>
         ensures { IfOk result (λ w. w ≡ fresh cap cap) }
     {
-        let Ok(slots) = Vec::with_capacity(alloc, cap as usize) else {
-            return Err(NoMemory);
-        };
+        let ring = octets(alloc, cap as usize)?;
+        let words = free_places(alloc, cap as usize)?;
         Ok(Window {
             room: cap,
             cap,
             taken: 0,
-            slots,
+            span: 0,
+            ring,
+            words,
         })
     }
 
@@ -56,7 +65,8 @@ impl Window {
         let edge = (self.taken + self.cap as u64).min(END_OF_PLACES);
         let bytes = within(bytes, first - place, edge.saturating_sub(first));
         if !bytes.is_empty() {
-            put_all(&mut self.slots, (first - self.taken) as usize, bytes);
+            put(&mut self.ring, &mut self.words, first, bytes);
+            self.span = self.span.max(first - self.taken + bytes.len() as u64);
         }
     }
 
@@ -65,7 +75,13 @@ impl Window {
         ensures count { result ≡ length (ready_of self.now) }
         ensures bound { self.now.taken + result ≤ 2 ^ 62 }
     {
-        count_front(&self.slots) as u64
+        run(
+            &self.words,
+            self.room as usize,
+            true,
+            self.taken,
+            self.span as usize,
+        ) as u64
     }
 
     /// Moves out as many octets as are ready and fit.
@@ -74,9 +90,18 @@ impl Window {
         ensures bytes { room.new ≡ take result (ready_of self.old) ++ drop result room.old }
         ensures window { self.new ≡ after_take self.old result }
     {
-        let count = copy_front(&self.slots, room);
-        shift(&mut self.slots, count);
+        let ready = run(
+            &self.words,
+            self.room as usize,
+            true,
+            self.taken,
+            self.span as usize,
+        );
+        let count = ready.min(room.len());
+        copy(&self.ring, self.taken, count, room);
+        free(&mut self.words, self.room as usize, self.taken, count);
         self.taken += count as u64;
+        self.span -= count as u64;
         count
     }
 
@@ -99,7 +124,8 @@ impl Window {
         requires { self.now.taken ≤ place }
         ensures { result ≡ list_all is_none (drop (place - self.now.taken) self.now.held) }
     {
-        is_free_from(&self.slots, (place - self.taken) as usize)
+        let left = self.span.saturating_sub(place - self.taken) as usize;
+        run(&self.words, self.room as usize, false, place, left) == left
     }
 
     /// Empties the window and gives it another length, without taking memory.
@@ -108,8 +134,14 @@ impl Window {
         requires most { cap ≤ self.old.room }
         ensures { self.new ≡ fresh self.old.room cap }
     {
-        self.slots.clear();
+        free(
+            &mut self.words,
+            self.room as usize,
+            self.taken,
+            self.span as usize,
+        );
         self.taken = 0;
+        self.span = 0;
         self.cap = cap;
     }
 }
@@ -126,4 +158,24 @@ fn within(bytes: &[u8], skipped: u64, most: u64) -> &[u8]
         return rest;
     }
     &rest[..most as usize]
+}
+
+/// So many octets.
+fn octets(alloc: Global, len: usize) -> Result<Vec<u8>, NoMemory>
+    ensures { IfOk result (λ v. vec_len v ≡ len) }
+{
+    match vec![in alloc; 0; len] {
+        Ok(octets) => Ok(octets),
+        Err(_) => Err(NoMemory),
+    }
+}
+
+/// Bits for so many places, of which none is kept.
+fn free_places(alloc: Global, len: usize) -> Result<Vec<u64>, NoMemory>
+    ensures { IfOk result (λ v. (len ≤ 64 * vec_len v) × ((i : ℕ) → is_kept v.items i ≡ false)) }
+{
+    match vec![in alloc; 0; len.div_ceil(WORD)] {
+        Ok(words) => Ok(words),
+        Err(_) => Err(NoMemory),
+    }
 }

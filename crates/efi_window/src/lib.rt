@@ -2,10 +2,14 @@
 //! is taken.
 #![tactic(auto)]
 
+// which indices hold a byte
+mod bits;
 // the window
 mod by_place;
-// runs of slots, each with a byte or none
-mod slots;
+// a ring, by place
+mod ring;
+// runs of a ring
+mod runs;
 
 pub use by_place::Window;
 

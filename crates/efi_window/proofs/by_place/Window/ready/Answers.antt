@@ -1,7 +1,11 @@
-use Rattle.std.proofs.Common.{length, ap, arith}
-use Rattle.efi_window.proofs.Fronts.{front-fits}
+use Rattle.std.proofs.Common.{◌∙◌, ◌+◌, ◌%◌, ap, sym}
+use Rattle.efi_window.specs.Kept.{is_kept}
+use Rattle.efi_window.proofs.Cells.{ready-slots}
 use Rattle.efi_window.proofs.by_place.Window.ready.Goals as goal
 
-pub returns-clause-bound : goal.returns-clause-bound
-returns-clause-bound c =
-    rw (← c.self.view_is) (omega (arith, front-fits c.deref.result.now, ap length c.deref.ensures.value))
+pub returns-clause-count : goal.returns-clause-count
+returns-clause-count c =
+    rw (← c.self.view_is)
+    (sym (ready-slots c.self.inside.room c.self.inside.ring.items c.self.inside.words.items c.self.inside.taken c.self.inside.span c.run.result c.run.ensures.most
+    (λ i h. ap (λ w. is_kept w ((c.self.inside.taken + i) % c.self.inside.room)) (sym c.deref.ensures.value) ∙ c.run.ensures.alike i h)
+    (λ h. ap (λ w. is_kept w ((c.self.inside.taken + c.run.result) % c.self.inside.room)) (sym c.deref.ensures.value) ∙ c.run.ensures.ends h)))

@@ -3,5 +3,8 @@ pub mod Moments
 pub mod Numbers
 pub mod Splitting
 pub mod Standing
+pub mod Staying
+pub mod Stopping
 pub mod Texts
+pub mod Unique
 pub mod Writing

@@ -34,7 +34,7 @@ only_records order (r ∷ rs) (t ∷ ts) rest fr ft some none e =
     only_records order rs ts rest fr.1 ft.1 some none one.rests
 
 -- what stands behind a header is what stands behind any other
-behind_header : (form : Form) (g h x y : List ℕ) → IsHeader form g → IsHeader form h → g ++ x ≡ h ++ y → x ≡ y
+pub behind_header : (form : Form) (g h x y : List ℕ) → IsHeader form g → IsHeader form h → g ++ x ≡ h ++ y → x ≡ y
 behind_header form g h x y ig ih e =
     sym (drop_at g x 24 (length-header form g ig)) ∙ ap (drop 24) e ∙ drop_at h y 24 (length-header form h ih)
 

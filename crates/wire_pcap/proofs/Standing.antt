@@ -1,19 +1,18 @@
 -- Where a reader stands after each step.
-use Rattle.std.proofs.Common.{rules, ◌≡◌, ◌⊎◌, inl, inr, ℕ, ◌+◌, ◌<◌, ◌≤◌, List, [], ◌∷◌, ◌++◌, length, take, drop, Option, Some, None, Result, Ok, Err, MatchResult, refl, sym, ap, subst, ◌∙◌, arith, append_assoc, length-append, length-drop}
+use Rattle.std.proofs.Common.{rules, ◌≡◌, ◌⊎◌, inl, inr, ℕ, ◌+◌, ◌<◌, ◌≤◌, List, [], ◌∷◌, ◌++◌, length, take, drop, Option, Some, None, refl, sym, ap, subst, ◌∙◌, arith, append_assoc, length-append, length-drop}
 use Rattle.std.specs.List.{flat_map}
 use Rattle.std.proofs.lemmas.List.{drop-drop, append-nil, take-append-drop}
 use Rattle.std.proofs.lemmas.Grind.{flat_map-append}
 use Rattle.efi_base.specs.declared.plain.Record.{Record}
-use Rattle.wire_pcap.specs.Grammar.{Order, Big, Little, Form, little_micros, IsHeader, Stored, record_text, Splits, time_of, records_of}
-use Rattle.wire_pcap.specs.Place.{IsCaptureFront, NeverCapture, HasNoHeader, HasNoRecord, IsBadPlace}
-use Rattle.wire_pcap.specs.Reading.{Reading, new_stage, IsHeaderFront, IsEarly, IsUnderWay, HasRead, IsNewFault, IsUnfinished}
-use Rattle.wire_pcap.specs.Marks.{HasMarks}
-use Rattle.wire_pcap.specs.Next.{IsHead, IsOver, MadeReady}
-use Rattle.wire_pcap.specs.Stands.{ReadsFrom, GoesOn, GoesOnTo, StopsFrom, Stops}
+use Rattle.wire_pcap.specs.Grammar.{Form, little_micros, IsHeader, Stored, record_text, Splits, time_of, records_of}
+use Rattle.wire_pcap.specs.Place.{IsCaptureFront}
+use Rattle.wire_pcap.specs.Reading.{Reading, new_stage, IsHeaderFront, IsEarly, IsUnderWay, HasRead, IsUnfinished}
+use Rattle.wire_pcap.specs.Next.{IsHead, MadeReady}
+use Rattle.wire_pcap.specs.Stands.{ReadsFrom, GoesOn, GoesOnTo}
 use Rattle.wire_pcap.specs.Steps.{new_clock, kept_at, record_at, clock_at, clock_after_all, made_from}
 use Rattle.wire_pcap.specs.declared.clock.Clock.{Clock}
 use Rattle.wire_pcap.specs.declared.fault.CapFault.{CapFault}
-use Rattle.wire_pcap.specs.declared.fault.CapFault.TheVariants.{BadAt, OutOfResources}
+use Rattle.wire_pcap.specs.declared.fault.CapFault.TheVariants.{BadAt}
 use Rattle.wire_pcap.specs.declared.head.Head.{Head}
 use Rattle.wire_pcap.specs.declared.records.Progress.{Progress}
 use Rattle.wire_pcap.specs.declared.stage.Stage.{Stage}
@@ -21,10 +20,10 @@ use Rattle.wire_pcap.specs.declared.stage.Reached.{Reached}
 use Rattle.wire_pcap.proofs.Numbers.{IsOctets, octets-drop}
 use Rattle.wire_pcap.proofs.Texts.{text-record_at, stored_at}
 use Rattle.wire_pcap.proofs.Moments.{clock_after_all-append, records_of-append, made_from-append}
-use Rattle.wire_pcap.proofs.Headers.{header_of, no_header, front_of_marks}
+use Rattle.wire_pcap.proofs.Headers.{front_of_marks}
 use Rattle.wire_pcap.specs.Written.{header_text}
 use Rattle.wire_pcap.proofs.Writing.{header_is}
-use Rattle.wire_pcap.proofs.Splitting.{each-append, no_capture, splits_more, splits_on, never_capture, over_has_none, partial_has_none, partial_few, partial_goes_on, header_goes_on, the_place}
+use Rattle.wire_pcap.proofs.Splitting.{each-append, no_capture, splits_more, splits_on, partial_has_none, partial_few, partial_goes_on, header_goes_on, the_place}
 
 abbrev made_record : ℕ → List ℕ → Record
 made_record tick frame = record { tick = record { 0 = tick }; frame = frame }
@@ -87,7 +86,7 @@ made_more_at form bytes from at clock next before mid after head octets m rest e
     (after_is ∙ ap (λ (t : List ℕ). mid ++ made_record next.tick (take head.kept (drop 16 t)) ∷ []) e)
 
 -- behind the header alone
-at_header : (form : Form) (bytes : List ℕ) → 24 ≤ length bytes → IsHeader form (take 24 bytes)
+pub at_header : (form : Form) (bytes : List ℕ) → 24 ≤ length bytes → IsHeader form (take 24 bytes)
     → Splits form bytes [] (drop 24 bytes)
 at_header form bytes long h =
     record { header = take 24 bytes; is_header = h; each = tt; text = sym (take-append-drop 24 bytes) }
@@ -122,10 +121,10 @@ read_behind form fed given before after records bytes start from to fault s r p 
           ∙ sym (clock_after_all-append res new_clock records m.records);
     }
 
-some_is : (f g : Form) → Some f ≡ Some g → f ≡ g
+pub some_is : (f g : Form) → Some f ≡ Some g → f ≡ g
 some_is f g e = cc
 
-none_some : (f : Form) (o : Option Form) → o ≡ None → o ≡ Some f → ⊥
+pub none_some : (f : Form) (o : Option Form) → o ≡ None → o ≡ Some f → ⊥
 none_some f o a b = absurd (let e : None ≡ Some f = sym a ∙ b in search (rules, e))
 
 -- a reader that went on has read all that was fed
@@ -191,84 +190,6 @@ pub few_left : (bytes : List ℕ) (from to : Stage) (left : List ℕ) (before af
 few_left bytes from to left before after g =
     omega (arith, ap length g.left_is, goes_on_few bytes from (record { stage = to; at = g.at }) before after g.goes_on)
 
-none_kept : (order : Order) → 262144 < kept_at order [] → ⊥
-none_kept Big over = omega (arith, over)
-none_kept Little over = omega (arith, over)
-
-over_some : (order : Order) (rest : List ℕ) → IsOver order rest → 0 < length rest
-over_some order [] over = absurd (none_kept order over)
-over_some order (x ∷ rest) over = omega arith
-
--- a bad record behind whole ones
-over_behind : (form : Form) (fed : List ℕ) (records : List Stored) (bytes : List ℕ) (start : ℕ) (from : Stage) (n : ℕ)
-    → Splits form fed records (drop start bytes) → from.place + length bytes ≡ length fed → StopsFrom form bytes start from (BadAt n)
-    → IsBadPlace fed n × NeverCapture fed
-over_behind form fed records bytes start from n s p d =
-    let o = d.over in
-    let rest = drop d.at bytes in
-    let within : d.at ≤ length bytes = o.within in
-    let splits = splits_on form fed records o.records (drop start bytes) rest s o.each o.text in
-    let none = over_has_none form.order rest o.over in
-    let some : 0 < length rest = over_some form.order rest o.over in
-    let P : List ℕ → Type 0 = λ t. HasNoRecord form.order t in (
-      inr (record {
-        form = form;
-        records = records ++ o.records;
-        rest = rest;
-        splits = splits;
-        some = some;
-        none = subst P (append-nil rest) (none []);
-        place = omega (arith, length-drop d.at bytes, within, p, d.place);
-      }),
-      never_capture form fed (records ++ o.records) rest splits some none,
-    )
-
--- a header that isn't one doesn't become one
-wrong_header : (bytes : List ℕ) → ((form : Form) (more : List ℕ) → HasNoHeader form (bytes ++ more)) → NeverCapture bytes
-wrong_header bytes none c = none c.form c.more c.capture.header _ c.capture.is_header c.capture.text
-
-wrong_marks : (fed piece : List ℕ) (bytes : List ℕ) → bytes ≡ fed ++ piece → ((form : Form) (more : List ℕ) → HasNoHeader form (bytes ++ more))
-    → IsBadPlace (fed ++ piece) 0 × NeverCapture (fed ++ piece)
-wrong_marks fed piece bytes same none =
-    let P : List ℕ → Type 0 = λ t. (form : Form) (more : List ℕ) → HasNoHeader form (t ++ more) in
-    let all = subst P same none in
-    let here : (form : Form) → HasNoHeader form (fed ++ piece) =
-    λ form. subst (λ (t : List ℕ). HasNoHeader form t) (append-nil (fed ++ piece)) (all form []) in
-    (inl (refl, here), wrong_header (fed ++ piece) all)
-
-fault_from : (fed : List ℕ) (given : List Record) (r : Reading) (piece : List ℕ) (n : ℕ)
-    → IsEarly fed given r ⊎ IsUnderWay fed given r → Stops (r.rest ++ piece) r.stage (BadAt n)
-    → IsBadPlace (fed ++ piece) n × NeverCapture (fed ++ piece)
-fault_from fed given r piece n (inl e) (inl w) =
-    let same : r.rest ++ piece ≡ fed ++ piece = ap (λ (t : List ℕ). t ++ piece) e.rest_is in
-    let P : ℕ → Type 0 = λ k. IsBadPlace (fed ++ piece) k × NeverCapture (fed ++ piece) in
-    subst P (sym w.place) (wrong_marks fed piece (r.rest ++ piece) same (λ form more. no_header form (r.rest ++ piece) more (w.wrong form)))
-fault_from fed given r piece n (inl e) (inr (inl h)) =
-    let bytes = r.rest ++ piece in
-    let same : bytes ≡ fed ++ piece = ap (λ (t : List ℕ). t ++ piece) e.rest_is in
-    let place : r.stage.place ≡ 0 = ap (λ (s : Stage). s.place) e.stage_is in
-    over_behind h.form (fed ++ piece) [] bytes 24 r.stage n
-    (subst (λ (t : List ℕ). Splits h.form t [] (drop 24 bytes)) same (at_header h.form bytes h.whole h.header))
-    (omega (arith, place, ap length same)) h.stops
-fault_from fed given r piece n (inl e) (inr (inr m)) =
-    absurd (none_some m.form r.stage.form (ap (λ (s : Stage). s.form) e.stage_is) m.known)
-fault_from fed given r piece n (inr u) (inl w) = absurd (none_some u.form r.stage.form w.early u.form_is)
-fault_from fed given r piece n (inr u) (inr (inl h)) = absurd (none_some u.form r.stage.form h.early u.form_is)
-fault_from fed given r piece n (inr u) (inr (inr m)) =
-    let bytes = r.rest ++ piece in
-    let same : m.form ≡ u.form = some_is m.form u.form (sym m.known ∙ u.form_is) in
-    let stops : StopsFrom u.form bytes 0 r.stage (BadAt n) = subst (λ (f : Form). StopsFrom f bytes 0 r.stage (BadAt n)) same m.stops in
-    over_behind u.form (fed ++ piece) u.records bytes 0 r.stage n (splits_more u.form fed u.records r.rest piece u.splits)
-    (omega (arith, u.place_is, length-append r.rest piece, length-append fed piece)) stops
-
--- a fault that is told newly has its cause
-pub cause_of : (fed : List ℕ) (given : List Record) (r : Reading) (piece : List ℕ) (e : CapFault) → HasRead fed given r
-    → Stops (r.rest ++ piece) r.stage e → IsNewFault (fed ++ piece) e
-cause_of fed given r piece OutOfResources h s = tt
-cause_of fed given r piece (BadAt n) h s =
-    let f = fault_from fed given r piece n h.1 s in
-    (the_place (fed ++ piece) n f.0, f.1)
-
 -- nothing was fed
 pub has_read_none : (r : Reading) → r.fault ≡ None → r.stage ≡ new_stage → r.rest ≡ [] → r.ready ≡ [] → HasRead [] [] r
 has_read_none r none new empty no_ready = (
@@ -307,14 +228,3 @@ late_unfinished fed given r (inr u) known some =
 pub unfinished_late : (fed : List ℕ) (given : List Record) (r : Reading) → HasRead fed given r → (r.stage.form ≡ None → ⊥)
     → 0 < length r.rest → IsUnfinished fed (BadAt r.stage.place)
 unfinished_late fed given r h known some = late_unfinished fed given r h.1 known some
-
--- over the header, and over the records behind it
-pub over_header : (form : Form) (bytes : List ℕ) (from : Stage) (before after : List Record) (res : Result Reached CapFault)
-    → from.form ≡ None → HasMarks form bytes → 24 ≤ length bytes
-    → MatchResult res (λ to. ReadsFrom form bytes 24 from to before after) (StopsFrom form bytes 24 from)
-    → MatchResult res (λ to. GoesOn bytes from to before after) (Stops bytes from)
-over_header form bytes from before after (Ok to) early marks long r =
-    inr (inl (record { early = early; form = form; whole = long; header = header_of form bytes long marks; reads = r }))
-over_header form bytes from before after (Err OutOfResources) early marks long r = tt
-over_header form bytes from before after (Err (BadAt n)) early marks long r =
-    inr (inl (record { early = early; form = form; whole = long; header = header_of form bytes long marks; stops = r }))

@@ -39,16 +39,14 @@ pub record MadeReady (form : Form) (bytes : List ℕ) (from to : Progress) (befo
   pub clock : to.clock ≡ clock_after_all form.resolution from.clock records
   pub ready : after ≡ before ++ made_from form.resolution from.clock records
 
--- from there on the octets are records, and then at n one that says that more octets were kept than may be
-pub record IsOverAt (order : Order) (bytes : List ℕ) (at n : ℕ) : Type 0 where
-  pub records : List Stored
-  pub each : AllByRecursion IsStored records
-  pub onward : at ≤ n
-  pub within : n ≤ length bytes
-  pub text : drop at bytes ≡ flat_map (record_text order) records ++ drop n bytes
-  pub over : IsOver order (drop n bytes)
+-- Why reading stops at a place of octets that stand behind so many others: for want of memory, or since the record there
+-- says that more octets were kept than may be. Its place is told among all octets.
+abbrev pub IsCause : Order → List ℕ → ℕ → ℕ → CapFault → Type 0
+IsCause order bytes others at OutOfResources = ⊤
+IsCause order bytes others at (BadAt n) = (n ≡ others + at) × IsOver order (drop at bytes)
 
--- for want of memory, or for a bad record
-abbrev pub IsCause : Order → List ℕ → ℕ → CapFault → Type 0
-IsCause order bytes at OutOfResources = ⊤
-IsCause order bytes at (BadAt n) = IsOverAt order bytes at n
+-- from a place on the octets are records, which were made ready, up to where reading stops
+pub record StopsFrom (form : Form) (bytes : List ℕ) (others : ℕ) (from : Progress) (e : CapFault) (before after : List Record) : Type 0 where
+  pub to : Progress
+  pub made : MadeReady form bytes from to before after
+  pub cause : IsCause form.order bytes others to.at e

@@ -1,5 +1,5 @@
 -- A reader of captures, as others see it.
-use Rattle.std.specs.Prelude.{◌≡◌, ◌⊎◌, ℕ, ◌+◌, ◌<◌, List, [], ◌∷◌, ◌++◌, length, Option, Some, None}
+use Rattle.std.specs.Prelude.{◌≡◌, ◌⊎◌, ℕ, ◌+◌, ◌<◌, ◌≤◌, List, [], ◌∷◌, ◌++◌, length, take, Option, Some, None}
 use Rattle.efi_base.specs.declared.plain.Record.{Record}
 use Rattle.wire_pcap.specs.Grammar.{Order, Form, IsHeader, Stored, IsStored, record_text, Splits, IsCapture, records_of}
 use Rattle.wire_pcap.specs.Place.{IsThePlace, NeverCapture}
@@ -22,10 +22,6 @@ held r = length r.rest
 -- nothing was read
 abbrev pub new_stage : Stage
 new_stage = record { form = None; place = 0; clock = new_clock }
-
--- a reader that told a fault
-abbrev pub stopped : Reading → CapFault → Reading
-stopped r e = record { stage = r.stage; rest = []; ready = []; fault = Some e }
 
 -- less than a whole header, which goes on to one
 pub record IsHeaderFront (form : Form) (bytes : List ℕ) : Type 0 where
@@ -81,10 +77,44 @@ pub record IsWhole (fed : List ℕ) (given ready : List Record) : Type 0 where
   pub capture : IsCapture form fed records
   pub records_are : given ++ ready ≡ records_of form.resolution records
 
+-- records stay, and others may come behind them
+pub record IsLonger (before after : List Record) : Type 0 where
+  pub more : List Record
+  pub longer : after ≡ before ++ more
+
 -- why a fault came: for want of memory, or at the first bad place of octets that no others make a capture
 abbrev pub IsNewFault : List ℕ → CapFault → Type 0
 IsNewFault fed OutOfResources = Unit {0}
 IsNewFault fed (BadAt n) = IsThePlace fed n × NeverCapture fed
+
+-- The records that were given and those that are ready are all in front of the octet n: what stands there is a capture
+-- of them, or nothing, where not even a header does.
+abbrev pub AreInFront : List ℕ → ℕ → List Record → List Record → Type 0
+AreInFront fed n given ready = IsWhole (take n fed) given ready ⊎ ((n ≡ 0) × (given ++ ready ≡ []))
+
+-- they are all in front of some octet
+pub record AreFirst (fed : List ℕ) (given ready : List Record) : Type 0 where
+  pub place : ℕ
+  pub within : place ≤ length fed
+  pub in_front : AreInFront fed place given ready
+
+-- what there is at a fault: the records in front of the bad place, or for want of memory the first ones
+abbrev pub AreLeft : List ℕ → CapFault → List Record → List Record → Type 0
+AreLeft fed OutOfResources given ready = AreFirst fed given ready
+AreLeft fed (BadAt n) given ready = AreInFront fed n given ready
+
+-- These octets were fed to the reader, before it told this fault and after, and it gave these records. It keeps no octets,
+-- and the records in front of the fault that it didn't give are ready.
+pub record HasStopped (fed : List ℕ) (given : List Record) (r : Reading) (e : CapFault) : Type 0 where
+  pub told : r.fault ≡ Some e
+  pub cause : IsNewFault fed e
+  pub none_kept : r.rest ≡ []
+  pub left : AreLeft fed e given r.ready
+
+-- the reader had stopped, and gave a record
+abbrev pub GivesLeft : Record → Reading → Reading → Type 0
+GivesLeft r old new =
+    (fed : List ℕ) (given : List Record) (e : CapFault) → HasStopped fed given old e → HasStopped fed (given ++ r ∷ []) new e
 
 -- what was fed isn't a capture: the octet n is the first of what isn't whole
 pub record IsUnfinished (fed : List ℕ) (e : CapFault) : Type 0 where

@@ -3,7 +3,7 @@ use Rattle.std.specs.Prelude.{◌≡◌, ◌⊎◌, ℕ, ◌+◌, ◌<◌, ◌�
 use Rattle.efi_base.specs.declared.plain.Record.{Record}
 use Rattle.wire_pcap.specs.Grammar.{Form, IsHeader}
 use Rattle.wire_pcap.specs.Marks.{HasMarks}
-use Rattle.wire_pcap.specs.Next.{MadeReady, IsOverAt}
+use Rattle.wire_pcap.specs.Next.{MadeReady, StopsFrom}
 use Rattle.wire_pcap.specs.Reading.{IsPartial}
 use Rattle.wire_pcap.specs.declared.fault.CapFault.{CapFault}
 use Rattle.wire_pcap.specs.declared.fault.CapFault.TheVariants.{BadAt, OutOfResources}
@@ -50,38 +50,33 @@ pub record GoesOnTo (bytes : List ℕ) (from to : Stage) (left : List ℕ) (befo
   pub left_is : left ≡ drop at bytes
   pub goes_on : GoesOn bytes from (record { stage = to; at = at }) before after
 
--- from a place on the octets are records, and then comes the octet n of the capture, which begins a bad one
-pub record IsOverFrom (form : Form) (bytes : List ℕ) (start : ℕ) (from : Stage) (n : ℕ) : Type 0 where
-  pub at : ℕ
-  pub over : IsOverAt form.order bytes start at
-  pub place : n ≡ from.place + at
-
-abbrev pub StopsFrom : Form → List ℕ → ℕ → Stage → CapFault → Type 0
-StopsFrom form bytes start from OutOfResources = Unit {0}
-StopsFrom form bytes start from (BadAt n) = IsOverFrom form bytes start from n
-
 -- the header is wrong
-pub record IsWrongHeader (bytes : List ℕ) (from : Stage) (n : ℕ) : Type 0 where
+pub record StopsAtHeader (bytes : List ℕ) (from : Stage) (e : CapFault) (before after : List Record) : Type 0 where
   pub early : from.form ≡ None
   pub wrong : (form : Form) → HasMarks form bytes → ⊥
-  pub place : n ≡ 0
+  pub told : e ≡ BadAt 0
+  pub same : after ≡ before
 
--- the header is right, and a record behind it is bad
-pub record IsWrongBehindHeader (bytes : List ℕ) (from : Stage) (e : CapFault) : Type 0 where
+-- a header was read at the front, and then records up to where reading stops
+pub record StopsBehindHeader (bytes : List ℕ) (from : Stage) (e : CapFault) (before after : List Record) : Type 0 where
   pub early : from.form ≡ None
   pub form : Form
   pub whole : 24 ≤ length bytes
   pub header : IsHeader form (take 24 bytes)
-  pub stops : StopsFrom form bytes 24 from e
+  pub stops : StopsFrom form bytes from.place (record { at = 24; clock = from.clock }) e before after
 
--- a record behind those that were read is bad
-pub record IsWrongBehind (bytes : List ℕ) (from : Stage) (e : CapFault) : Type 0 where
+-- records were read up to where reading stops
+pub record StopsLater (bytes : List ℕ) (from : Stage) (e : CapFault) (before after : List Record) : Type 0 where
   pub form : Form
   pub known : from.form ≡ Some form
-  pub stops : StopsFrom form bytes 0 from e
+  pub stops : StopsFrom form bytes from.place (record { at = 0; clock = from.clock }) e before after
 
--- why reading stopped
-abbrev pub Stops : List ℕ → Stage → CapFault → Type 0
-Stops bytes from OutOfResources = Unit {0}
-Stops bytes from (BadAt n) = IsWrongHeader bytes from n
-    ⊎ (IsWrongBehindHeader bytes from (BadAt n) ⊎ IsWrongBehind bytes from (BadAt n))
+-- there is no room for the octets, and none were read
+pub record HasNoRoom (e : CapFault) (before after : List Record) : Type 0 where
+  pub told : e ≡ OutOfResources
+  pub same : after ≡ before
+
+-- why reading stopped, and how far it went
+abbrev pub Stops : List ℕ → Stage → CapFault → List Record → List Record → Type 0
+Stops bytes from e before after = StopsAtHeader bytes from e before after
+    ⊎ (StopsBehindHeader bytes from e before after ⊎ (StopsLater bytes from e before after ⊎ HasNoRoom e before after))

@@ -12,6 +12,8 @@ mod form;
 mod head;
 // a capture's header
 mod header;
+// what holds of the definitions
+mod laws;
 // the reader that is fed a capture
 mod reader;
 // whole records, one after the other
@@ -22,6 +24,7 @@ mod stage;
 mod writer;
 
 pub use fault::CapFault;
+pub use laws::{bad_places_stay, records_are_one};
 pub use reader::PcapReader;
 pub use writer::{write_header, write_record};
 

@@ -2,7 +2,7 @@
 ghost use Rattle.std.specs.Prelude.{◌≡◌, ◌⊎◌, ◌<◌, ℕ, List, [], ◌∷◌, ◌++◌, Some, None, Ok, Err, OnOk, IfErr, IfSome, IfNone};
 ghost use Rattle.efi_base.specs.declared.plain.Record.{Record};
 ghost use Rattle.wire_pcap.specs.Place.{IsCaptureFront};
-ghost use Rattle.wire_pcap.specs.Reading.{Reading, held, new_stage, stopped, HasRead, Reads, Gives, IsNewFault, IsWhole, IsUnfinished};
+ghost use Rattle.wire_pcap.specs.Reading.{Reading, held, new_stage, HasRead, Reads, Gives, IsLonger, IsNewFault, HasStopped, GivesLeft, IsWhole, IsUnfinished};
 ghost use Rattle.wire_pcap.specs.declared.fault.CapFault.{CapFault};
 
 use crate::clock::Clock;
@@ -54,16 +54,19 @@ impl PcapReader {
         }
     }
 
-    /// Takes the next octets of the capture, and makes the records that are whole now.
+    /// Takes the next octets of the capture, and makes the records that are whole now, also those in front of a fault.
     pub fn feed(&mut self, piece: &[u8]) -> Result<(), CapFault>
         // Octets that go on to a capture are read, and those that can't are refused at once, with their place.
         ensures ok { OnOk result ((self.old.fault ≡ None) × (self.new.fault ≡ None) × Reads piece.now self.old self.new) }
         ensures front { OnOk result ((fed : List ℕ) (given : List Record) → HasRead fed given self.old → IsCaptureFront (fed ++ piece.now)) }
         ensures cause { IfErr result (λ e. (fed : List ℕ) (given : List Record) → HasRead fed given self.old → IsNewFault (fed ++ piece.now) e) }
 
-        // A fault is told again for ever, and the reader keeps nothing else.
-        ensures fault { IfErr result (λ e. self.old.fault ≡ None → self.new ≡ stopped self.old e) }
+        // Records in front of a fault stay ready. It is told again for ever, and nothing that is fed then counts.
+        ensures stops { IfErr result (λ e. (fed : List ℕ) (given : List Record) → HasRead fed given self.old → HasStopped (fed ++ piece.now) given self.new e) }
+        ensures stays { (fed : List ℕ) (given : List Record) (e : CapFault) → HasStopped fed given self.old e → HasStopped (fed ++ piece.now) given self.new e }
+        ensures fault { IfErr result (λ e. self.old.fault ≡ None → (self.new.fault ≡ Some e) × (self.new.rest ≡ [])) }
         ensures told { (e : CapFault) → self.old.fault ≡ Some e → (result ≡ Err e) × (self.new ≡ self.old) }
+        ensures kept { IsLonger self.old.ready self.new.ready }
         ensures few { held self.new < 262160 }
     {
         if let Some(fault) = self.fault {
@@ -82,19 +85,18 @@ impl PcapReader {
             }
             Err(fault) => {
                 self.octets.clear();
-                self.ready.clear();
                 self.fault = Some(fault);
                 Err(fault)
             }
         }
     }
 
-    /// Moves out the oldest record that is ready. After a fault there is none.
+    /// Moves out the oldest record that is ready, also after a fault.
     pub fn take(&mut self) -> Option<Record>
         ensures some { IfSome result (λ r. (self.old.ready ≡ r ∷ self.new.ready) × Gives r self.old self.new) }
+        ensures left { IfSome result (λ r. GivesLeft r self.old self.new) }
         ensures none { IfNone result ((self.old.ready ≡ []) × (self.new ≡ self.old)) }
         ensures fault { self.new.fault ≡ self.old.fault }
-        ensures told { (e : CapFault) → self.old.fault ≡ Some e → result ≡ None }
         ensures few { held self.new < 262160 }
     {
         let record = self.ready.pop_front()?;

@@ -1,7 +1,7 @@
 //! Reading record after record in octets.
 ghost use Rattle.std.specs.Prelude.{◌≡◌, ◌+◌, ◌≤◌, length, take, drop, [], ◌∷◌, ◌++◌, OnOk, IfErr, MatchResult};
 ghost use Rattle.wire_pcap.specs.Reading.{IsPartial};
-ghost use Rattle.wire_pcap.specs.Next.{MadeReady, IsCause};
+ghost use Rattle.wire_pcap.specs.Next.{MadeReady, StopsFrom};
 
 use crate::clock::{Clock, clock_at};
 use crate::fault::CapFault;
@@ -29,7 +29,7 @@ fn make_record(
     requires { 16 + kept ≤ length bytes.now }
     ensures made { OnOk result (ready.new.items ≡ ready.old.items
         ++ record { tick = record { 0 = tick }; frame = take kept (drop 16 bytes.now) } ∷ []) }
-    ensures memory { IfErr result (λ e. e ≡ CapFault.OutOfResources) }
+    ensures memory { IfErr result (λ e. (e ≡ CapFault.OutOfResources) × (ready.new.items ≡ ready.old.items)) }
 {
     let octets = &bytes[RECORD_HEAD_LEN..RECORD_HEAD_LEN + kept];
     let Ok(frame) = Vec::from_slice(alloc, octets) else {
@@ -45,7 +45,8 @@ fn make_record(
     }
 }
 
-/// Makes the whole records that stand behind a place of the octets. The place of a bad one is counted from their first.
+/// Makes the whole records that stand behind a place of the octets, also those in front of a bad one. Its place is counted
+/// from their first.
 pub fn read_records(
     alloc: Global,
     form: Form,
@@ -55,7 +56,7 @@ pub fn read_records(
 ) -> Result<Progress, CapFault>
     requires { from.at ≤ length bytes.now }
     ensures { MatchResult result (λ to. MadeReady form bytes.now from to ready.old.items ready.new.items × IsPartial form.order (drop to.at bytes.now))
-        (λ e. IsCause form.order bytes.now from.at e) }
+        (λ e. StopsFrom form bytes.now 0 from e ready.old.items ready.new.items) }
 {
     let mut at = from.at;
     let mut clock = from.clock;

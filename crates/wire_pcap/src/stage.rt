@@ -1,6 +1,7 @@
 //! Reading on where what was fed before ended.
 ghost use Rattle.std.specs.Prelude.{◌≡◌, ◌+◌, ◌^◌, ◌<◌, ◌≤◌, ◌++◌, length, drop, MatchResult};
-ghost use Rattle.wire_pcap.specs.Stands.{GoesOn, Stops, ReadsFrom, StopsFrom, GoesOnTo};
+ghost use Rattle.wire_pcap.specs.Next.{StopsFrom};
+ghost use Rattle.wire_pcap.specs.Stands.{GoesOn, Stops, ReadsFrom, GoesOnTo};
 
 use crate::clock::Clock;
 use crate::fault::CapFault;
@@ -39,7 +40,7 @@ fn read_from(
     requires start { start ≤ length bytes.now }
     requires place { from.place + length bytes.now < 2 ^ 64 }
     ensures { MatchResult result (λ to. ReadsFrom form bytes.now start from to ready.old.items ready.new.items)
-        (StopsFrom form bytes.now start from) }
+        (λ e. StopsFrom form bytes.now from.place (record { at = start; clock = from.clock }) e ready.old.items ready.new.items) }
 {
     let progress = Progress {
         at: start,
@@ -67,7 +68,8 @@ fn read_on(
     ready: &mut VecDeque<Record>,
 ) -> Result<Reached, CapFault>
     requires { from.place + length bytes.now < 2 ^ 64 }
-    ensures { MatchResult result (λ to. GoesOn bytes.now from to ready.old.items ready.new.items) (Stops bytes.now from) }
+    ensures { MatchResult result (λ to. GoesOn bytes.now from to ready.old.items ready.new.items)
+        (λ e. Stops bytes.now from e ready.old.items ready.new.items) }
 {
     if let Some(form) = from.form {
         return read_from(alloc, form, bytes, 0, from, ready);
@@ -101,7 +103,7 @@ pub fn read_piece(
     ready: &mut VecDeque<Record>,
 ) -> Result<Stage, CapFault>
     ensures { MatchResult result (λ to. GoesOnTo (octets.old.items ++ piece.now) from to octets.new.items ready.old.items ready.new.items)
-        (Stops (octets.old.items ++ piece.now) from) }
+        (λ e. Stops (octets.old.items ++ piece.now) from e ready.old.items ready.new.items) }
 {
     if octets.extend_from_slice(piece).is_err() {
         return Err(CapFault::OutOfResources);

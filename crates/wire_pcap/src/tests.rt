@@ -82,8 +82,8 @@ fn capture(alloc: Global, form: [&str; 4]) -> Result<Vec<u8>, AllocError> {
     Ok(octets)
 }
 
-/// Feeds the octets in pieces of a length, and takes what is ready after each. Answers the ticks and the lengths of the
-/// frames, how many octets were fed without a fault, and the fault or what the end says.
+/// Feeds the octets in pieces of a length, up to a fault, and takes what is ready after each. Answers the ticks and the
+/// lengths of the frames, how many octets were fed without a fault, and the fault or what the end says.
 fn read(
     alloc: Global,
     octets: &[u8],
@@ -93,16 +93,17 @@ fn read(
     let mut records = Vec::new(alloc);
     let mut fed = 0;
     for part in octets.chunks(piece.max(1)) {
-        if let Err(fault) = reader.feed(part) {
-            return Ok((records, fed, Err(fault)));
-        }
-        fed = fed.saturating_add(part.len());
+        let result = reader.feed(part);
         for _ in 0..1000 {
             let Some(record) = reader.take() else {
                 break;
             };
             records.push((record.tick.0, record.frame.len()))?;
         }
+        if let Err(fault) = result {
+            return Ok((records, fed, Err(fault)));
+        }
+        fed = fed.saturating_add(part.len());
     }
     let end = reader.finish();
     Ok((records, fed, end))
@@ -151,7 +152,7 @@ fn ends_too_early(rt: HostRuntime) -> Result<(), Fail> {
 }
 
 /// A form, a place at which other octets are put, and how many octets are fed before the fault comes, and its place.
-/// Each fault is told with the first octet behind which no capture goes on.
+/// Each fault is told with the first octet behind which no capture goes on, and the records in front of it are given.
 #[test]
 fn tells_a_fault_at_once(rt: HostRuntime) -> Result<(), Fail> {
     let cases = [
@@ -184,34 +185,51 @@ fn tells_a_fault_at_once(rt: HostRuntime) -> Result<(), Fail> {
         changed.extend_from_slice(octets.get(..place).unwrap_or(&[]))?;
         push_hex(&mut changed, put)?;
         changed.extend_from_slice(octets.get(place + put.len() / 2..).unwrap_or(&[]))?;
-        let (_, fed, end) = read(rt.alloc(), &changed, 1)?;
-        assert_eq!(rt;
-            (fed, end),
-            (told, Err(CapFault::BadAt(bad))),
-            "{put} at {place} of {form}"
-        );
-        let (_, none, whole) = read(rt.alloc(), &changed, 1000)?;
-        assert_eq!(rt;
-            (none, whole),
-            (0, Err(CapFault::BadAt(bad))),
-            "{put} at {place} of {form}"
-        );
+        let before = if bad > 24 {
+            [(0, 54)].as_slice()
+        } else {
+            [].as_slice()
+        };
+        for (piece, wanted) in [(1, told), (1000, 0)] {
+            let (records, fed, end) = read(rt.alloc(), &changed, piece)?;
+            assert_eq!(rt;
+                (fed, end),
+                (wanted, Err(CapFault::BadAt(bad))),
+                "{put} at {place} of {form} in {piece}"
+            );
+            assert_eq!(rt;
+                records.as_slice(),
+                before,
+                "{put} at {place} of {form} in {piece}"
+            );
+        }
     }
     Ok(())
 }
 
+/// The tick and the length of the frame that the reader gives next.
+fn next(reader: &mut PcapReader) -> Option<(u64, usize)> {
+    let record = reader.take()?;
+    Some((record.tick.0, record.frame.len()))
+}
+
+/// The fault is told again, and two records in front of it are given, of which one was ready before.
 #[test]
 fn tells_a_fault_for_ever(rt: HostRuntime) -> Result<(), Fail> {
-    let bad = Err(CapFault::BadAt(94));
+    let bad = Err(CapFault::BadAt(164));
     let mut octets = capture(rt.alloc(), FORMS[0])?;
-    octets.truncate(102);
+    octets.truncate(172);
     push_hex(&mut octets, "01000400")?;
     let mut reader = PcapReader::new(rt.alloc());
-    assert_eq!(rt; reader.feed(&octets), bad);
+    assert_eq!(rt; reader.feed(octets.get(..100).unwrap_or(&[])), Ok(()));
+    assert_eq!(rt; reader.feed(octets.get(100..).unwrap_or(&[])), bad);
     assert_eq!(rt; reader.feed(&[]), bad);
+    assert_eq!(rt; next(&mut reader), Some((0, 54)));
     assert_eq!(rt; reader.feed(&octets), bad);
     assert_eq!(rt; reader.finish(), bad);
-    assert!(rt; reader.take().is_none());
+    assert_eq!(rt; next(&mut reader), Some((2, 54)));
+    assert_eq!(rt; next(&mut reader), None);
+    assert_eq!(rt; reader.finish(), bad);
     Ok(())
 }
 

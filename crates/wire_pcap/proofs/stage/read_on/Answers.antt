@@ -1,4 +1,4 @@
-use Rattle.wire_pcap.proofs.Standing.{over_header}
+use Rattle.wire_pcap.proofs.Stopping.{over_header}
 use Rattle.wire_pcap.proofs.stage.read_on.Goals as goal
 
 pub returns : goal.returns

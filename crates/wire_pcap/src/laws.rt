@@ -1,0 +1,15 @@
+//! What holds of the definitions: each law is the contract of a function that does nothing.
+ghost use Rattle.std.specs.Prelude.{◌≡◌, ◌++◌, ℕ, List};
+ghost use Rattle.efi_base.specs.declared.plain.Record.{Record};
+ghost use Rattle.wire_pcap.specs.Place.{IsThePlace, NeverCapture};
+ghost use Rattle.wire_pcap.specs.Reading.{IsWhole};
+
+/// Octets are a capture of one list of records at most: behind those that were given, no others can be ready.
+pub fn records_are_one()
+    ensures { (bytes : List ℕ) (given a b : List Record) → IsWhole bytes given a → IsWhole bytes given b → a ≡ b }
+{}
+
+/// Octets that no others make a capture have their bad place for ever: whatever is read behind them, it is the same.
+pub fn bad_places_stay()
+    ensures { (bytes more : List ℕ) (n : ℕ) → IsThePlace bytes n → NeverCapture bytes → IsThePlace (bytes ++ more) n }
+{}

@@ -4,7 +4,7 @@ use Rattle.std.specs.List.{flat_map, AllByRecursion}
 use Rattle.std.proofs.lemmas.Grind.{flat_map-append}
 use Rattle.std.proofs.lemmas.Bool.Decides.{nat_tests}
 use Rattle.httparse.specs.Grammar.{ChunkLine, chunk_size, print_chunk_line}
-use Rattle.wire_http.specs.declared.stage.Part.TheVariants as part
+use Rattle.efi_base.specs.declared.response.Part.TheVariants as part
 use Rattle.wire_http.specs.declared.stage.Stage.{Stage}
 use Rattle.wire_http.specs.declared.stage.Stage.TheVariants.{Done, Bad, Left, UntilEnd, Line, Octets, Return, Feed, Trailer}
 use Rattle.wire_http.specs.declared.chunk_line.LinePlace.{LinePlace}

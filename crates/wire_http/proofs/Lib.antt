@@ -1,3 +1,4 @@
+pub mod BadLaws
 pub mod BodyLaws
 pub mod ChunkedEnds
 pub mod ChunkedSeen
@@ -9,7 +10,6 @@ pub mod LineCount
 pub mod LineSeen
 pub mod LineWalks
 pub mod PieceLaws
-pub mod PlainLaw
 pub mod ResponseLaws
 pub mod RunLaws
 pub mod Texts

@@ -5,7 +5,7 @@ use Rattle.wire_http.specs.declared.head.Framing.{Framing}
 use Rattle.wire_http.specs.declared.head.Framing.TheVariants as framing
 use Rattle.wire_http.specs.declared.bodies.BodyState.{BodyState}
 use Rattle.wire_http.specs.declared.bodies.BodyState.TheVariants as state
-use Rattle.wire_http.specs.declared.stage.Part.TheVariants as part
+use Rattle.efi_base.specs.declared.response.Part.TheVariants as part
 use Rattle.wire_http.specs.declared.stage.Stage.{Stage}
 use Rattle.wire_http.specs.declared.stage.Stage.TheVariants.{Done, Bad, Left, UntilEnd, Line, Octets, Return, Feed, Trailer}
 use Rattle.wire_http.specs.Body.{HoldsSoFar}

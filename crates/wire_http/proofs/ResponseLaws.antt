@@ -1,20 +1,20 @@
 -- A response is one, and stays the same when the stream grows.
-use Rattle.std.proofs.Common.{◌≡◌, ℕ, Bool, true, false, not, List, [], ◌∷◌, ◌++◌, refl, sym, ap, ◌∙◌, subst, arith, append_assoc, append-nil, length-append, inl, inr, IsTrue}
+use Rattle.std.proofs.Common.{◌≡◌, ℕ, Bool, true, false, not, List, [], ◌∷◌, ◌++◌, length, refl, sym, ap, ◌∙◌, subst, arith, append_assoc, append-nil, length-append, inl, inr, IsTrue}
 use Rattle.std.specs.List.{flat_map, AllByRecursion}
 use Rattle.std.proofs.lemmas.List.{take-append-le}
 use Rattle.httparse.specs.Grammar.{ResponseHead, print_response, status_code}
 use Rattle.httparse.proofs.GrammarLemmas.{response_unique}
 use Rattle.wire_http.specs.declared.head.Framing.{Framing}
 use Rattle.wire_http.specs.declared.head.Framing.TheVariants as framing
-use Rattle.wire_http.specs.declared.stage.Part.{Part}
-use Rattle.wire_http.specs.declared.stage.Part.TheVariants as part
+use Rattle.efi_base.specs.declared.response.Part.{Part}
+use Rattle.efi_base.specs.declared.response.Part.TheVariants as part
 use Rattle.wire_http.specs.declared.stage.Stage.{Stage}
 use Rattle.wire_http.specs.declared.bodies.BodyState.TheVariants as state
 use Rattle.wire_http.specs.Body.{HoldsBody, HoldsSoFar, IsBadBody}
 use Rattle.wire_http.specs.Fields.{framing_of}
 use Rattle.wire_http.specs.Heads.{fields_of, IsHead, is_interim, HasHeads}
 use Rattle.wire_http.specs.Info.{NeverHasHead}
-use Rattle.wire_http.specs.Response.{IsWhole, IsBodySoFar, IsBad, HasBadBody}
+use Rattle.wire_http.specs.Response.{IsWhole, IsBodySoFar, IsBad, HasBadBody, HasBadHeads}
 use Rattle.wire_http.proofs.ChunkedWalks.{chunked_walk}
 use Rattle.wire_http.proofs.ChunkedSeen.{chunks_more, trailer_more}
 use Rattle.wire_http.proofs.BodyLaws.{chunked_state}
@@ -59,6 +59,19 @@ stays stream more body fin later status h end = record {
   uncoded = h.uncoded;
   holds = body_stays (framing_of status (fields_of h.final)) fin later h.rest more body end h.holds;
 }
+
+-- nothing stands behind what is all
+none_behind : (xs ys : List ℕ) → xs ≡ xs ++ ys → ys ≡ []
+none_behind xs [] e = refl
+none_behind xs (y ∷ ys) e =
+    let long = ap length e in
+    absurd (omega (arith, long, length-append xs (y ∷ ys)))
+
+pub front_whole : (front more stream body : List ℕ) (fin : Bool) (status : ℕ) → stream ≡ front ++ more → (fin ≡ true → front ≡ stream)
+    → IsWhole front fin status body → IsWhole stream true status body
+front_whole front more stream body fin status e end h =
+    subst (λ (t : List ℕ). IsWhole t true status body) (sym e)
+    (stays front more body fin true status h (λ at_end. (none_behind front more (end at_end ∙ e), refl)))
 
 -- ---- it is one
 
@@ -205,11 +218,15 @@ bad_body stream body fin status p x y =
     subst (λ (r : List ℕ). IsBadBody f r p) (sym same.1) (subst (λ (f : Framing). IsBadBody f y.rest p) framing_same y.is_bad) in
     body_not_bad f fin x.rest body p x.holds bad
 
+-- a stream with a final head has no bad heads
+pub heads_not_bad : (stream : List ℕ) (i : List ResponseHead) (f : ResponseHead) (r : List ℕ) → HasHeads stream i f r
+    → ¬ (HasBadHeads stream)
+heads_not_bad stream i f r x (inl bad) =
+    no_bad_head i bad.interim f r bad.rest x.valid bad.valid bad.are_interim x.final_valid x.is_final bad.never (sym x.text ∙ bad.text)
+heads_not_bad stream i f r x (inr bad) = bad.1 i f r x
+
 pub whole_not_bad : (stream body : List ℕ) (fin : Bool) (status : ℕ) (p : Part) → IsWhole stream fin status body → IsBad stream p → ⊥
-whole_not_bad stream body fin status part.Head x (inl y) =
-    no_bad_head x.interim y.interim x.final x.rest y.rest x.heads.valid y.valid y.are_interim x.heads.final_valid x.heads.is_final y.never
-    (sym x.heads.text ∙ y.text)
-whole_not_bad stream body fin status part.Head x (inr y) = y.1 x.interim x.final x.rest x.heads
+whole_not_bad stream body fin status part.Head x y = heads_not_bad stream x.interim x.final x.rest x.heads y
 whole_not_bad stream body fin status part.Length x y = bad_body stream body fin status part.Length x y
 whole_not_bad stream body fin status part.Chunk x y = bad_body stream body fin status part.Chunk x y
 whole_not_bad stream body fin status part.Trailer x y = bad_body stream body fin status part.Trailer x y

@@ -2,7 +2,7 @@
 use Rattle.std.proofs.Common.{◌≡◌, ◌==◌, cond, ℕ, zero, suc, ◌-◌, ◌<◌, ◌≤◌, Bool, true, false, List, [], ◌∷◌, ◌++◌, length, take, refl, sym, ap, ◌∙◌, subst, arith, length-take-le}
 use Rattle.std.proofs.lemmas.Bool.Decides.{nat_tests}
 use Rattle.std.proofs.lemmas.List.{take_all}
-use Rattle.wire_http.specs.declared.stage.Part.{Part}
+use Rattle.efi_base.specs.declared.response.Part.{Part}
 use Rattle.wire_http.specs.declared.stage.Stage.{Stage}
 use Rattle.wire_http.specs.declared.stage.Stage.TheVariants.{Done, Bad, Left, UntilEnd, Line, Octets, Return, Feed, Trailer}
 use Rattle.wire_http.specs.Stages.{walk, step, put_front, wants_octets, allows, after_run, is_ended, left_stage, octets_stage}

@@ -2,8 +2,8 @@
 use Rattle.std.specs.Prelude.{◌≡◌, ℕ, ◌≤◌, Bool, true, List, [], length, take}
 use Rattle.wire_http.specs.declared.head.Framing.{Framing}
 use Rattle.wire_http.specs.declared.head.Framing.TheVariants.{Empty, Length, Chunked, Close, BadLength}
-use Rattle.wire_http.specs.declared.stage.Part.{Part}
-use Rattle.wire_http.specs.declared.stage.Part.TheVariants as part
+use Rattle.efi_base.specs.declared.response.Part.{Part}
+use Rattle.efi_base.specs.declared.response.Part.TheVariants as part
 use Rattle.wire_http.specs.Chunked.{IsChunked, IsChunkedSoFar, NeverHasChunks, NeverHasTrailer}
 
 -- the rest of the stream holds this body whole, by its framing; fin says that the stream is at its end

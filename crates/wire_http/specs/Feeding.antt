@@ -4,7 +4,7 @@ use Rattle.wire_http.specs.declared.bodies.Body.{Body}
 use Rattle.wire_http.specs.declared.bodies.BodyState.{BodyState}
 use Rattle.wire_http.specs.declared.bodies.BodyState.TheVariants.{More, Whole, Bad}
 use Rattle.wire_http.specs.declared.head.Framing.{Framing}
-use Rattle.wire_http.specs.declared.stage.Part.{Part}
+use Rattle.efi_base.specs.declared.response.Part.{Part}
 use Rattle.wire_http.specs.Body.{HoldsBody, HoldsSoFar, IsBadBody}
 use Rattle.wire_http.specs.declared.stage.Stage.{Stage}
 use Rattle.wire_http.specs.declared.stage.Stage.TheVariants.{Done, Left, UntilEnd, Line, Octets, Return, Feed, Trailer}

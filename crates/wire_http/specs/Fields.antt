@@ -1,6 +1,6 @@
 -- What the fields of a final head say of its body: coding (RFC 9110, section 8.4; RFC 9112, section 6.1) and framing
 -- (RFC 9112, section 6.3).
-use Rattle.std.specs.Prelude.{ℕ, Bool, true, false, ◌&&◌, ◌||◌, ◌==◌, not, nat_le, List, [], ◌∷◌, length, map, filter, codes, Option, Some, None, if◌then◌else◌, is_none}
+use Rattle.std.specs.Prelude.{ℕ, Bool, true, false, ◌&&◌, ◌||◌, ◌==◌, not, nat_le, List, [], ◌∷◌, length, map, filter, codes, Option, Some, None, if◌then◌else◌}
 use Rattle.std.specs.List.{flat_map, list_all}
 use Rattle.std.specs.Option.{option_and_then, option_map_or}
 use Rattle.std.specs.Char.{is_ascii_digit, to_ascii_lowercase}
@@ -9,8 +9,8 @@ use Rattle.std.specs.Str.Parse.{digits_value}
 use Rattle.httparse.specs.Grammar.{trim_ows}
 use Rattle.wire_http.specs.declared.head.Framing.{Framing}
 use Rattle.wire_http.specs.declared.head.Framing.TheVariants.{Empty, Length, Chunked, Close, BadLength}
-use Rattle.wire_http.specs.declared.head.CodingField.{CodingField}
-use Rattle.wire_http.specs.declared.head.CodingField.TheVariants.{Content, Transfer}
+use Rattle.efi_base.specs.declared.response.CodingField.{CodingField}
+use Rattle.efi_base.specs.declared.response.CodingField.TheVariants.{Content, Transfer}
 
 -- a field: its name, and its value without the blanks around it
 abbrev pub Pair : Type 0
@@ -99,19 +99,3 @@ framing_of status fields =
     if has_no_body status then Empty
     else if is_one (codes "chunked") (transfer_codings fields) then Chunked
     else framing_by_lengths (content_lengths fields)
-
--- there is one value, and it is 1 to 19 digits
-abbrev pub is_sole_number : List (List ℕ) → Bool
-is_sole_number [] = false
-is_sole_number (v ∷ []) = not (is_none (length_number v))
-is_sole_number (v ∷ w ∷ vs) = false
-
--- the values are none
-abbrev pub are_none : List (List ℕ) → Bool
-are_none [] = true
-are_none (v ∷ vs) = false
-
--- the length stands in one field of digits alone, and no field names a coding
-abbrev pub has_sole_length : List Pair → Bool
-has_sole_length fields =
-    is_sole_number (content_lengths fields) && (are_none (transfer_codings fields) && are_none (content_codings fields))

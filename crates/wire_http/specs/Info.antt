@@ -4,7 +4,7 @@ use Rattle.httparse.specs.Grammar.{ResponseHead, print_response, status_code}
 use Rattle.wire_http.specs.declared.head.Head.{Head}
 use Rattle.wire_http.specs.declared.head.Head.TheVariants.{Whole, More, Bad}
 use Rattle.wire_http.specs.declared.head.HeadInfo.{HeadInfo}
-use Rattle.wire_http.specs.Fields.{Pair, coding_of, framing_of, has_sole_length}
+use Rattle.wire_http.specs.Fields.{Pair, coding_of, framing_of}
 use Rattle.wire_http.specs.Heads.{fields_of, ReadsHead}
 
 -- the status, and what the fields say
@@ -12,7 +12,6 @@ pub record IsInfo (info : HeadInfo) (code : ℕ) (fields : List Pair) : Type 0 w
   pub status_is : info.status ≡ code
   pub framing_is : info.framing ≡ framing_of code fields
   pub coding_is : info.coding ≡ coding_of fields
-  pub sole_is : info.sole_length ≡ has_sole_length fields
 
 -- the first n octets are the head, and the info is what it says
 pub record HeadIs (bytes : List ℕ) (head : ResponseHead) (info : HeadInfo) (n : ℕ) : Type 0 where

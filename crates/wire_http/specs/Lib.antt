@@ -6,7 +6,6 @@ pub mod Fields
 pub mod Heads
 pub mod HostNames
 pub mod Info
-pub mod Plain
 pub mod Requests
 pub mod Response
 pub mod Stages

@@ -2,8 +2,8 @@
 use Rattle.std.specs.Prelude.{◌≡◌, ℕ, ◌≤◌, ◌⊎◌, Bool, List, [], ◌++◌, length, None, IsTrue}
 use Rattle.std.specs.List.{flat_map, AllByRecursion}
 use Rattle.httparse.specs.Grammar.{ResponseHead, print_response, status_code}
-use Rattle.wire_http.specs.declared.stage.Part.{Part}
-use Rattle.wire_http.specs.declared.stage.Part.TheVariants as part
+use Rattle.efi_base.specs.declared.response.Part.{Part}
+use Rattle.efi_base.specs.declared.response.Part.TheVariants as part
 use Rattle.wire_http.specs.Body.{HoldsBody, HoldsSoFar, IsBadBody}
 use Rattle.wire_http.specs.Fields.{coding_of, framing_of}
 use Rattle.wire_http.specs.Heads.{fields_of, IsHead, is_interim, HasHeads}

@@ -5,7 +5,7 @@ use Rattle.std.specs.Char.{is_ascii_hexdigit, digit_value}
 use Rattle.httparse.specs.Grammar.{is_ows, is_token_byte, is_value_byte}
 use Rattle.wire_http.specs.declared.head.Framing.{Framing}
 use Rattle.wire_http.specs.declared.head.Framing.TheVariants as framing
-use Rattle.wire_http.specs.declared.stage.Part.TheVariants as part
+use Rattle.efi_base.specs.declared.response.Part.TheVariants as part
 use Rattle.wire_http.specs.declared.chunk_line.LinePlace.{LinePlace}
 use Rattle.wire_http.specs.declared.chunk_line.LinePlace.TheVariants as line
 use Rattle.wire_http.specs.declared.trailer.FieldPlace.{FieldPlace}

@@ -6,7 +6,8 @@ ghost use Rattle.wire_http.specs.declared.bodies.BodyState.TheVariants.{More};
 
 use crate::head::Framing;
 use crate::runs::feed_stage;
-use crate::stage::{Part, Stage, start};
+use crate::stage::{Stage, start};
+use efi_base::Part;
 
 /// How far a body is.
 #[derive(Clone, Copy, PartialEq, Eq, Debug)]

@@ -1,12 +1,13 @@
 //! What the fields of a head say of its body: codings and framing.
 ghost use Rattle.std.specs.Prelude.{◌≡◌, length, All};
 ghost use Rattle.httparse.specs.Spans.{IsHeaderWithin};
-ghost use Rattle.wire_http.specs.Fields.{values, is_one, is_none_or_one, are_none, is_sole_number, coding_of, framing_of, framing_by_lengths, has_no_body, has_sole_length};
+ghost use Rattle.wire_http.specs.Fields.{values, is_one, is_none_or_one, coding_of, framing_of, framing_by_lengths, has_no_body};
 ghost use Rattle.wire_http.specs.Walk.{fields_at, ShowsValues};
 
-use crate::head::{CodingField, Framing};
-use crate::lengths::{join_elements, length_number};
+use crate::head::Framing;
+use crate::lengths::join_elements;
 use crate::text::same_word;
+use efi_base::CodingField;
 use httparse::spans::{HeaderSpan, Span};
 
 /// The values of the fields of one name.
@@ -66,33 +67,6 @@ pub fn coding(buf: &[u8], spans: &[HeaderSpan]) -> Option<CodingField>
         return Some(CodingField::Transfer);
     }
     None
-}
-
-fn is_absent(buf: &[u8], spans: &[HeaderSpan], name: &[u8]) -> bool
-    requires within { All (IsHeaderWithin (length buf.now)) spans.now }
-    ensures { result ≡ are_none (values name.now (fields_at buf.now spans.now)) }
-{
-    matches!(values_of(buf, spans, name), Values::Nothing)
-}
-
-fn is_sole_number(buf: &[u8], spans: &[HeaderSpan], name: &[u8]) -> bool
-    requires within { All (IsHeaderWithin (length buf.now)) spans.now }
-    ensures { result ≡ is_sole_number (values name.now (fields_at buf.now spans.now)) }
-{
-    match values_of(buf, spans, name) {
-        Values::One(value) => length_number(value.of(buf)).is_some(),
-        _ => false,
-    }
-}
-
-/// Whether the length stands in one field of digits alone, and no field names a coding.
-pub fn sole_length(buf: &[u8], spans: &[HeaderSpan]) -> bool
-    requires within { All (IsHeaderWithin (length buf.now)) spans.now }
-    ensures { result ≡ has_sole_length (fields_at buf.now spans.now) }
-{
-    is_sole_number(buf, spans, b"content-length")
-        && is_absent(buf, spans, b"transfer-encoding")
-        && is_absent(buf, spans, b"content-encoding")
 }
 
 /// The length that the Content-Length fields state together, or `Close` where there is none.

@@ -6,10 +6,14 @@ ghost use Rattle.wire_http.specs.Heads.{ReadsHead};
 ghost use Rattle.wire_http.specs.Info.{IsInfo, HeadIs, IfWhole, IsWholeAnd, MayBecomeHead, NeverHasHead};
 ghost use Rattle.wire_http.specs.Walk.{fields_at};
 
-use crate::fields::{coding, framing, sole_length};
+use crate::fields::{coding, framing};
 use crate::lines::fields_begun;
+use efi_base::CodingField;
 use httparse::Status;
 use httparse::spans::{EMPTY_HEADER_SPAN, HeaderSpan, parse_response};
+
+/// The most octets of all heads of a response together.
+pub const MOST_HEAD: usize = 16_384;
 
 /// The most fields of a head.
 const MOST_FIELDS: usize = 64;
@@ -29,13 +33,6 @@ pub enum Framing {
     BadLength,
 }
 
-/// The field that names a coding which isn't undone here.
-#[derive(Clone, Copy, PartialEq, Eq, Debug)]
-pub enum CodingField {
-    Content,
-    Transfer,
-}
-
 /// What a head says.
 #[derive(Clone, Copy, PartialEq, Eq, Debug)]
 pub struct HeadInfo {
@@ -43,8 +40,6 @@ pub struct HeadInfo {
     pub status: u16,
     pub framing: Framing,
     pub coding: Option<CodingField>,
-    /// The length stands in one field of 1 to 19 digits, and no field names a coding.
-    pub sole_length: bool,
 }
 
 /// What stands at the front of the octets.
@@ -96,6 +91,5 @@ fn info_of(bytes: &[u8], spans: &[HeaderSpan], status: u16) -> HeadInfo
         status,
         framing: framing(bytes, spans, status),
         coding: coding(bytes, spans),
-        sole_length: sole_length(bytes, spans),
     }
 }

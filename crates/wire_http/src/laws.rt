@@ -3,7 +3,7 @@
 ghost use Rattle.std.specs.Prelude.{◌≡◌, ℕ, Bool, true, List, [], ◌++◌};
 ghost use Rattle.wire_http.specs.Response.{IsWhole, IsBodySoFar, IsBad};
 
-use crate::stage::Part;
+use efi_base::Part;
 
 /// A stream holds at most one whole response.
 pub fn whole_is_one()
@@ -16,6 +16,13 @@ pub fn whole_is_one()
 pub fn whole_stays()
     ensures { (stream more body : List ℕ) → (fin later : Bool) → (status : ℕ) → IsWhole stream fin status body
         → (fin ≡ true → (more ≡ []) × (later ≡ true)) → IsWhole (stream ++ more) later status body }
+{}
+
+/// A whole response of a stream's front is the whole response of the stream at its end: what is told of the front is that
+/// it goes on, or it is all of the stream.
+pub fn whole_front_is_whole()
+    ensures { (front more stream body : List ℕ) → (fin : Bool) → (status : ℕ) → stream ≡ front ++ more
+        → (fin ≡ true → front ≡ stream) → IsWhole front fin status body → IsWhole stream true status body }
 {}
 
 /// A stream fixes one list of octets of a body.
@@ -32,4 +39,9 @@ pub fn whole_is_so_far()
 pub fn whole_is_not_bad()
     ensures { (stream body : List ℕ) → (fin : Bool) → (status : ℕ) → (bad : Part) → IsWhole stream fin status body
         → ¬ (IsBad stream bad) }
+{}
+
+/// A stream is bad at one part.
+pub fn bad_is_one()
+    ensures { (stream : List ℕ) → (a b : Part) → IsBad stream a → IsBad stream b → a ≡ b }
 {}

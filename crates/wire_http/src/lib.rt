@@ -17,8 +17,6 @@ mod laws;
 mod lines;
 // The numbers of Content-Length.
 mod lengths;
-// The body of the plainest response.
-mod plain;
 // The request of a load.
 mod request;
 // Pieces of a body.
@@ -39,11 +37,12 @@ mod uri_tests;
 mod uris;
 
 pub use bodies::{Body, BodyState, Fed};
-pub use head::{CodingField, Framing, Head, HeadInfo, read_head};
+pub use head::{Framing, Head, HeadInfo, MOST_HEAD, read_head};
 pub use hosts::{Host, Name};
-pub use laws::{body_so_far_is_one, whole_is_not_bad, whole_is_one, whole_is_so_far, whole_stays};
-pub use plain::{MOST_HEAD, plain_body};
+pub use laws::{
+    bad_is_one, body_so_far_is_one, whole_front_is_whole, whole_is_not_bad, whole_is_one,
+    whole_is_so_far, whole_stays,
+};
 pub use request::request_text;
-pub use stage::Part;
 pub use uri_fault::UriFault;
 pub use uris::{Uri, read_uri};

@@ -5,19 +5,7 @@ ghost use Rattle.wire_http.specs.Stages.{left_stage, octets_stage, line_done, ke
 use crate::chunk_line::{LinePlace, ends_line, fits_line, next_place, next_size};
 use crate::head::Framing;
 use crate::trailer::{FieldPlace, ends_trailer, fits_trailer, next_field_place, next_fields};
-
-/// The part at which a stream is no response.
-#[derive(Clone, Copy, PartialEq, Eq, Debug)]
-pub enum Part {
-    /// The heads.
-    Head,
-    /// The stated length.
-    Length,
-    /// The chunks.
-    Chunk,
-    /// The trailer.
-    Trailer,
-}
+use efi_base::Part;
 
 /// What the next octet is.
 #[derive(Clone, Copy, PartialEq, Eq, Debug)]

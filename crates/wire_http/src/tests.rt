@@ -1,86 +1,94 @@
 //! Heads and bodies from outside.
-use crate::{Body, BodyState, CodingField, Framing, Head, HeadInfo, Part, plain_body, read_head};
+use crate::{Body, BodyState, Framing, Head, HeadInfo, read_head};
+use efi_base::{CodingField, Part};
 
-fn whole(
-    status: u16,
-    framing: Framing,
-    coding: Option<CodingField>,
-    sole_length: bool,
-    len: usize,
-) -> Head {
+fn whole(status: u16, framing: Framing, coding: Option<CodingField>, len: usize) -> Head {
     let info = HeadInfo {
         status,
         framing,
         coding,
-        sole_length,
     };
     Head::Whole(info, len)
 }
 
 #[test]
 fn reads_heads(rt: HostRuntime) {
-    let cases: [(&[u8], Head); 16] = [
+    let cases: [(&[u8], Head); 21] = [
         (
             b"HTTP/1.1 200 OK\r\nContent-Length: 1\r\n\r\nA",
-            whole(200, Framing::Length(1), None, true, 38),
+            whole(200, Framing::Length(1), None, 38),
         ),
         (
             b"HTTP/1.1 404 Not Found\r\ncontent-length:0007\r\n\r\n",
-            whole(404, Framing::Length(7), None, true, 47),
+            whole(404, Framing::Length(7), None, 47),
         ),
         (
             b"HTTP/1.1 200 OK\r\nTransfer-Encoding: CHUNKED\r\n\r\n",
-            whole(200, Framing::Chunked, None, false, 47),
+            whole(200, Framing::Chunked, None, 47),
         ),
         (
             b"HTTP/1.1 200 OK\r\nTransfer-Encoding: gzip\r\n\r\n",
-            whole(200, Framing::Close, Some(CodingField::Transfer), false, 44),
+            whole(200, Framing::Close, Some(CodingField::Transfer), 44),
         ),
         (
             b"HTTP/1.1 200 OK\r\nContent-Encoding: gzip\r\n\r\n",
-            whole(200, Framing::Close, Some(CodingField::Content), false, 43),
+            whole(200, Framing::Close, Some(CodingField::Content), 43),
         ),
         (
             b"HTTP/1.1 200 OK\r\nContent-Encoding: Identity\r\n\r\n",
-            whole(200, Framing::Close, None, false, 47),
+            whole(200, Framing::Close, None, 47),
         ),
         (
             b"HTTP/1.1 200 OK\r\nContent-Length: 5\r\nContent-Length: 05\r\n\r\n",
-            whole(200, Framing::Length(5), None, false, 58),
+            whole(200, Framing::Length(5), None, 58),
         ),
         (
             b"HTTP/1.1 200 OK\r\nContent-Length: 5 ,\t5\r\n\r\n",
-            whole(200, Framing::Length(5), None, false, 42),
+            whole(200, Framing::Length(5), None, 42),
         ),
         (
             b"HTTP/1.1 200 OK\r\nContent-Length: 5, 6\r\n\r\n",
-            whole(200, Framing::BadLength, None, false, 41),
+            whole(200, Framing::BadLength, None, 41),
         ),
         (
             b"HTTP/1.1 200 OK\r\nContent-Length: 5,\r\n\r\n",
-            whole(200, Framing::BadLength, None, false, 39),
+            whole(200, Framing::BadLength, None, 39),
         ),
         (
             b"HTTP/1.1 200 OK\r\nContent-Length: 9999999999999999999\r\n\r\n",
-            whole(
-                200,
-                Framing::Length(9_999_999_999_999_999_999),
-                None,
-                true,
-                56,
-            ),
+            whole(200, Framing::Length(9_999_999_999_999_999_999), None, 56),
         ),
         (
             b"HTTP/1.1 200 OK\r\nContent-Length: 00000000000000000001\r\n\r\n",
-            whole(200, Framing::BadLength, None, false, 57),
+            whole(200, Framing::BadLength, None, 57),
+        ),
+        (
+            b"HTTP/1.1 200 OK\r\nContent-Length: 18446744073709551617\r\n\r\n",
+            whole(200, Framing::BadLength, None, 57),
+        ),
+        (
+            b"HTTP/1.1 200 OK\r\nContent-Length: -1\r\n\r\n",
+            whole(200, Framing::BadLength, None, 39),
+        ),
+        (
+            b"HTTP/1.1 200 OK\r\nContent-Length: 5\r\nContent-Length: 6\r\n\r\n",
+            whole(200, Framing::BadLength, None, 57),
+        ),
+        (
+            b"HTTP/1.1 200 OK\r\nContent-Length: 7,7, 07\r\n\r\n",
+            whole(200, Framing::Length(7), None, 44),
+        ),
+        (
+            b"HTTP/1.1 103 Early Hints\r\nLink: a\r\n\r\nHTTP/1.1 200 OK\r\n\r\n",
+            whole(103, Framing::Close, None, 37),
         ),
         (
             b"HTTP/1.1 204 No Content\r\nContent-Length: 1\r\n\r\n",
-            whole(204, Framing::Empty, None, true, 46),
+            whole(204, Framing::Empty, None, 46),
         ),
         (
             b"HTTP/1.0 200 OK\r\n\r\n",
-            whole(200, Framing::Close, None, false, 19),
+            whole(200, Framing::Close, None, 19),
         ),
         (b"HTTP/1.1 200 OK\r\nContent-Length: 1\r\n", Head::More),
         (b"HTTP/2 200\r\n\r\n", Head::Bad),
@@ -93,7 +101,7 @@ fn reads_heads(rt: HostRuntime) {
 #[test]
 fn reads_at_most_64_fields(rt: HostRuntime) {
     let cases: [(&[u8], Head); 5] = [
-        (b"\n", whole(200, Framing::Close, None, false, 209)),
+        (b"\n", whole(200, Framing::Close, None, 209)),
         (b"", Head::More),
         (b"\r", Head::More),
         (b"a", Head::Bad),
@@ -107,19 +115,6 @@ fn reads_at_most_64_fields(rt: HostRuntime) {
         }
         assert!(rt; bytes.extend_from_slice(end).is_ok());
         assert_eq!(rt; read_head(&bytes), want);
-    }
-}
-
-#[test]
-fn takes_plain_bodies(rt: HostRuntime) {
-    let cases: [(&[u8], Option<&[u8]>); 4] = [
-        (b"HTTP/1.1 200 OK\r\nContent-Length: 1\r\n\r\nA", Some(b"A")),
-        (b"HTTP/1.1 200 OK\r\nContent-Length: 2\r\n\r\nA", None),
-        (b"HTTP/1.1 404 No\r\nContent-Length: 1\r\n\r\nA", None),
-        (b"HTTP/1.1 200 OK\r\n\r\nA", None),
-    ];
-    for (stream, want) in cases {
-        assert!(rt; plain_body(stream) == want);
     }
 }
 
@@ -146,7 +141,7 @@ const TWO_CHUNKS: &[u8] = b"A;x=1\r\n0123456789\r\n0a\r\nabcdefghij\r\n0\r\nT: 1
 fn reads_bodies(rt: HostRuntime) {
     let chunk = BodyState::Bad(Part::Chunk);
     let trailer = BodyState::Bad(Part::Trailer);
-    let cases: [(Framing, &[u8], &[u8], BodyState, BodyState, usize, &[u8]); 18] = [
+    let cases: [(Framing, &[u8], &[u8], BodyState, BodyState, usize, &[u8]); 20] = [
         (
             Framing::Chunked,
             b"A;x",
@@ -239,6 +234,24 @@ fn reads_bodies(rt: HostRuntime) {
             b"ab",
         ),
         (Framing::Chunked, b"8000000", b"1\r\n", chunk, chunk, 1, b""),
+        (
+            Framing::Chunked,
+            b"FFFFFFF",
+            b"FFFFFFFFF\r\n",
+            chunk,
+            chunk,
+            1,
+            b"",
+        ),
+        (
+            Framing::Chunked,
+            b"10000000",
+            b"000000001\r\n",
+            chunk,
+            chunk,
+            1,
+            b"",
+        ),
         (Framing::Chunked, b"1\r\nab", b"\r\n", chunk, chunk, 0, b"a"),
         (Framing::Chunked, b"1\r\na\r", b"\r", chunk, chunk, 1, b"a"),
         (Framing::Chunked, b"1\n", b"a", chunk, chunk, 0, b""),

@@ -184,53 +184,6 @@ look-interim bytes at n head info p inside h interim = (
   passed-more bytes at n head info p h interim,
 )
 
--- ---- all heads
-
-same_final : (is js : List ResponseHead) (f g : ResponseHead) (r q : List ℕ) → AreHeads is → AreInterim is → IsHead f
-    → IsTrue (not (is_interim f)) → AreHeads js → AreInterim js → IsHead g → IsTrue (not (is_interim g))
-    → heads_text is ++ (print_response f ++ r) ≡ heads_text js ++ (print_response g ++ q) → (f ≡ g) × (r ≡ q)
-same_final [] [] f g r q iv ii fv fi jv ji gv gi e = one_front f g r q fv gv e
-same_final [] (j ∷ js) f g r q iv ii fv fi jv ji gv gi e =
-    let same = one_front f j r (heads_text js ++ (print_response g ++ q)) fv jv.0
-    (e ∙ append_assoc (print_response j) (heads_text js) (print_response g ++ q)) in
-    absurd (not_both j f (sym same.0) ji.0 fi)
-same_final (i ∷ is) [] f g r q iv ii fv fi jv ji gv gi e =
-    let same = one_front i g (heads_text is ++ (print_response f ++ r)) q iv.0 gv
-    (sym (append_assoc (print_response i) (heads_text is) (print_response f ++ r)) ∙ e) in
-    absurd (not_both i g same.0 ii.0 gi)
-same_final (i ∷ is) (j ∷ js) f g r q iv ii fv fi jv ji gv gi e =
-    let same = one_front i j (heads_text is ++ (print_response f ++ r)) (heads_text js ++ (print_response g ++ q)) iv.0 jv.0
-    (sym (append_assoc (print_response i) (heads_text is) (print_response f ++ r)) ∙ e
-    ∙ append_assoc (print_response j) (heads_text js) (print_response g ++ q)) in
-    same_final is js f g r q iv.1 ii.1 fv fi jv.1 ji.1 gv gi same.1
-
-pub heads_unique : (s : List ℕ) (is js : List ResponseHead) (f g : ResponseHead) (r q : List ℕ) → HasHeads s is f r
-    → HasHeads s js g q → (f ≡ g) × (r ≡ q)
-heads_unique s is js f g r q x y =
-    same_final is js f g r q x.valid x.are_interim x.final_valid x.is_final y.valid y.are_interim y.final_valid y.is_final
-    (sym x.text ∙ y.text)
-
-not_never : (is js : List ResponseHead) (f : ResponseHead) (r q : List ℕ) → AreHeads is → IsHead f
-    → IsTrue (not (is_interim f)) → AreHeads js → AreInterim js
-    → heads_text is ++ (print_response f ++ r) ≡ heads_text js ++ q → NeverHasHead q → ⊥
-not_never [] [] f r q iv fv fi jv ji e never = never [] f r (record { is_head = fv; text = append-nil q ∙ sym e })
-not_never [] (j ∷ js) f r q iv fv fi jv ji e never =
-    let same = one_front f j r (heads_text js ++ q) fv jv.0 (e ∙ append_assoc (print_response j) (heads_text js) q) in
-    absurd (not_both j f (sym same.0) ji.0 fi)
-not_never (i ∷ is) [] f r q iv fv fi jv ji e never =
-    never [] i (heads_text is ++ (print_response f ++ r))
-    (record { is_head = iv.0; text = append-nil q ∙ sym e ∙ append_assoc (print_response i) (heads_text is) (print_response f ++ r) })
-not_never (i ∷ is) (j ∷ js) f r q iv fv fi jv ji e never =
-    let same = one_front i j (heads_text is ++ (print_response f ++ r)) (heads_text js ++ q) iv.0 jv.0
-    (sym (append_assoc (print_response i) (heads_text is) (print_response f ++ r)) ∙ e
-    ∙ append_assoc (print_response j) (heads_text js) q) in
-    not_never is js f r q iv.1 fv fi jv.1 ji.1 same.1 never
-
-pub heads_not_bad : (s : List ℕ) (is : List ResponseHead) (f : ResponseHead) (r : List ℕ) → HasHeads s is f r → ¬ (HasBadHeads s)
-heads_not_bad s is f r x (inl bad) =
-    not_never is bad.interim f r bad.rest x.valid x.final_valid x.is_final bad.valid bad.are_interim (sym x.text ∙ bad.text) bad.never
-heads_not_bad s is f r x (inr bad) = bad.1 is f r x
-
 -- ---- what follows
 
 pub heads-append : (s more : List ℕ) (is : List ResponseHead) (f : ResponseHead) (r : List ℕ) → HasHeads s is f r

@@ -5,24 +5,24 @@ use Rattle.std.proofs.lemmas.Bool.Decides.{nat_tests}
 use Rattle.httparse.specs.Grammar.{ResponseHead, status_code}
 use Rattle.wire_http.specs.declared.bodies.BodyState.{BodyState}
 use Rattle.wire_http.specs.declared.bodies.BodyState.TheVariants as state
-use Rattle.wire_http.specs.declared.head.CodingField.{CodingField}
+use Rattle.efi_base.specs.declared.response.CodingField.{CodingField}
 use Rattle.wire_http.specs.declared.head.Framing.{Framing}
 use Rattle.wire_http.specs.declared.head.Framing.TheVariants as framing
 use Rattle.wire_http.specs.declared.head.HeadInfo.{HeadInfo}
-use Rattle.wire_http.specs.declared.stage.Part.{Part}
-use Rattle.wire_http.specs.declared.stage.Part.TheVariants as part
+use Rattle.efi_base.specs.declared.response.Part.{Part}
+use Rattle.efi_base.specs.declared.response.Part.TheVariants as part
 use Rattle.wire_http.specs.Body.{HoldsBody, HoldsSoFar, IsBadBody}
 use Rattle.wire_http.specs.Feeding.{IsState}
 use Rattle.wire_http.specs.Fields.{coding_of, framing_of}
 use Rattle.wire_http.specs.Heads.{fields_of, HasHeads}
 use Rattle.wire_http.specs.Response.{HasBadBody, HasBadHeads}
 use Rattle.wire_http.proofs.PieceLaws.{so_far_unique}
+use Rattle.wire_http.proofs.ResponseLaws.{heads_unique, heads_not_bad}
 use Rattle.load_core.specs.declared.met.Met.{Met}
 use Rattle.load_core.specs.declared.met.Met.TheVariants.{Success, BadResponse, HttpStatus, Coding, BufferTooSmall}
 use Rattle.load_core.specs.declared.reading.Reading.{Reading}
 use Rattle.load_core.specs.Met.{HasFinal, IsLengthSoFar, IsLength, Meets, IsFirst, IsFirstMet}
 use Rattle.load_core.specs.Taken.{AtHeads, IsBehind, length_by, case_by_length, case_by_coding, case_of}
-use Rattle.load_core.proofs.HeadRuns.{heads_unique, heads_not_bad}
 use Rattle.load_core.proofs.Standing.{whole_is}
 
 -- ---- without a final head

@@ -17,13 +17,14 @@ use Rattle.wire_http.specs.Stages.{walk, start}
 use Rattle.wire_http.proofs.RunLaws.{walk_done, walk_until_end, walk_left}
 use Rattle.wire_http.proofs.ChunkedWalks.{chunked_walk}
 use Rattle.wire_http.proofs.PieceLaws.{so_far_is, so_far_unique}
+use Rattle.wire_http.proofs.ResponseLaws.{heads_unique, heads_not_bad}
 use Rattle.load_core.specs.declared.load.Stage.{Stage}
 use Rattle.load_core.specs.declared.load.Stage.TheVariants.{Heads, BadHead, Behind}
 use Rattle.load_core.specs.declared.reading.Reading.{Reading}
 use Rattle.load_core.specs.Final.{IsFinal}
 use Rattle.load_core.specs.Met.{HasLoadSoFar}
 use Rattle.load_core.specs.Taken.{room_of, Reads, ReadsOn, AtHeads, IsBehind, StandsAt}
-use Rattle.load_core.proofs.HeadRuns.{heads_unique, heads_not_bad, heads-append, bad_heads-append}
+use Rattle.load_core.proofs.HeadRuns.{heads-append, bad_heads-append}
 
 -- ---- a piece in front of which the final head isn't whole
 

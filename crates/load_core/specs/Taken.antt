@@ -3,7 +3,7 @@ use Rattle.std.specs.Prelude.{◌≡◌, ℕ, ◌<◌, ◌==◌, ◌&&◌, false
 use Rattle.httparse.specs.Grammar.{ResponseHead, status_code}
 use Rattle.wire_http.specs.declared.bodies.BodyState.{BodyState}
 use Rattle.wire_http.specs.declared.bodies.BodyState.TheVariants as state
-use Rattle.wire_http.specs.declared.head.CodingField.{CodingField}
+use Rattle.efi_base.specs.declared.response.CodingField.{CodingField}
 use Rattle.wire_http.specs.declared.head.Framing.{Framing}
 use Rattle.wire_http.specs.declared.head.Framing.TheVariants as framing
 use Rattle.wire_http.specs.declared.head.HeadInfo.{HeadInfo}

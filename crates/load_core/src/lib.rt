@@ -6,6 +6,8 @@
 mod heads;
 // What is kept of a list up to a limit.
 mod kept;
+// What holds of the definitions.
+mod laws;
 // A response that comes in pieces.
 mod load;
 // The cases, and which of them is met.
@@ -13,6 +15,7 @@ mod met;
 // The body behind the final head.
 mod reading;
 
+pub use laws::met_is_one;
 pub use load::Load;
 pub use met::Met;
 

@@ -8,9 +8,9 @@ use crate::heads::{Found, find_final};
 use crate::kept::keep;
 use crate::met::{Met, case_of, length_by};
 use crate::reading::{Reading, read_first, read_piece, room_of, state_at};
-use efi_base::{Bytes, NoMemory};
+use efi_base::{Bytes, NoMemory, Part};
 use std::alloc::Global;
-use wire_http::{MOST_HEAD, Part};
+use wire_http::MOST_HEAD;
 
 /// How far a response is.
 #[derive(Clone, Copy, PartialEq, Eq, Debug)]

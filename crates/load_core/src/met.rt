@@ -2,7 +2,8 @@
 ghost use Rattle.std.specs.Prelude.{◌≡◌};
 ghost use Rattle.load_core.specs.Taken.{length_by, case_by_length, case_by_coding, case_by_head, case_of};
 
-use wire_http::{BodyState, CodingField, Framing, HeadInfo, Part};
+use efi_base::{CodingField, Part};
+use wire_http::{BodyState, Framing, HeadInfo};
 
 /// The status of a response that has what was asked for (RFC 9110, section 15.3.1).
 pub const OK: u16 = 200;

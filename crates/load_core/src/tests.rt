@@ -2,9 +2,9 @@
 ghost use Rattle.std.specs.Prelude.{◌<◌};
 
 use crate::{Load, Met};
+use efi_base::{CodingField, Part};
 use std::alloc::Global;
 use std::process::Abort;
-use wire_http::{CodingField, Part};
 
 /// The buffer's length, the stream, whether it is at its end, what is met, and the octets placed.
 type Row<'a> = (u32, &'a [u8], bool, Option<Met>, &'a [u8]);
@@ -34,7 +34,7 @@ fn each_loads(rt: &impl Abort, alloc: Global, rows: &[Row]) {
 
 #[test]
 fn every_case(rt: HostRuntime) {
-    let rows: [Row; 22] = [
+    let rows: [Row; 25] = [
         (
             5,
             b"HTTP/1.1 200 OK\r\nContent-Length: 5\r\n\r\nhello",
@@ -86,6 +86,20 @@ fn every_case(rt: HostRuntime) {
         ),
         (
             9,
+            b"HTTP/1.1 103 Early Hints\r\nLink: a\r\n\r\nHTTP/1.1 200 OK\r\nContent-Length: 1, 01\r\n\r\n!",
+            false,
+            Some(Met::Success),
+            b"!",
+        ),
+        (
+            1,
+            b"HTTP/1.1 404 None\r\nContent-Length: 2\r\n\r\nno",
+            false,
+            Some(Met::HttpStatus(404)),
+            b"",
+        ),
+        (
+            9,
             b"HTTP/1.1 101 Switching\r\n\r\n",
             false,
             Some(Met::HttpStatus(101)),
@@ -103,6 +117,13 @@ fn every_case(rt: HostRuntime) {
         (
             9,
             b"HTTP/1.1 200 OK\r\nContent-Length: 5, 6\r\n\r\n",
+            false,
+            Some(Met::BadResponse(Part::Length)),
+            b"",
+        ),
+        (
+            9,
+            b"HTTP/1.1 200 OK\r\nContent-Length: 5\r\nContent-Length: 6\r\n\r\nhello",
             false,
             Some(Met::BadResponse(Part::Length)),
             b"",
@@ -181,19 +202,40 @@ fn every_case(rt: HostRuntime) {
     each_loads(&rt, rt.alloc(), &rows);
 }
 
-/// Feeds a piece so many times.
-fn feeds(rt: &impl Abort, load: &mut Load, piece: &[u8], times: usize) {
-    for _ in 0..times {
-        load.feed(piece).expect(rt, "memory for the piece");
+/// A head of 34 octets, and no body.
+const EMPTY: &[u8] = b"HTTP/1.1 200 OK\nContent-Length:0\n\n";
+
+/// What is met of a stream with 16,320 blank octets and so many more between its front and its end.
+fn meets_behind(
+    rt: &impl Abort,
+    alloc: Global,
+    front: &[u8],
+    times: usize,
+    end: &[u8],
+) -> Option<Met> {
+    let mut load = Load::new(alloc, 9);
+    load.feed(front).expect(rt, "memory for the front");
+    for _ in 0..255 {
+        load.feed(&[b'\n'; 64]).expect(rt, "memory for the blanks");
     }
+    for _ in 0..times {
+        load.feed(b"\n").expect(rt, "memory for a blank");
+    }
+    load.feed(end).expect(rt, "memory for the end");
+    load.met(false)
 }
 
 #[test]
 fn heads_end_at_the_limit(rt: HostRuntime) {
-    let mut load = Load::new(rt.alloc(), 9);
-    feeds(&rt, &mut load, &[b'\n'; 64], 255);
-    feeds(&rt, &mut load, b"\n", 63);
-    assert_eq!(rt; load.met(true), None);
-    feeds(&rt, &mut load, b"\n", 1);
-    assert_eq!(rt; load.met(false), Some(Met::BadResponse(Part::Head)));
+    let bad = Some(Met::BadResponse(Part::Head));
+    let cases: [(&[u8], usize, &[u8], Option<Met>); 5] = [
+        (b"", 63, b"", None),
+        (b"", 64, b"", bad),
+        (b"HTTP/1.1 103 E\n\n", 13, EMPTY, Some(Met::Success)),
+        (b"HTTP/1.1 103 E\n\n", 14, EMPTY, Some(Met::Success)),
+        (b"HTTP/1.1 103 E\n\n", 15, EMPTY, bad),
+    ];
+    for (front, times, end, want) in cases {
+        assert_eq!(rt; meets_behind(&rt, rt.alloc(), front, times, end), want);
+    }
 }

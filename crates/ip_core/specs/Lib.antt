@@ -3,7 +3,6 @@ pub mod Datagrams
 pub mod Frames
 pub mod Inside
 pub mod Pools
-pub mod Refusals
 pub mod Routing
 pub mod Seen
 pub mod Standing

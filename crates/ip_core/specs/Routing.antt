@@ -2,11 +2,11 @@
 -- section 5.2.4.3; masks are those of RFC 4632, section 3.1).
 use Rattle.std.specs.Prelude.{◌≡◌, ℕ, ◌-◌, ◌/◌, ◌^◌, ◌<◌, ◌≤◌, Bool, true, false, not, ◌&&◌, ◌==◌, nat_lt, IsTrue, List, ◌∷◌, ◌++◌, length, fold, remove, Option, Some, None, if◌then◌else◌, bit_and, count_ones, is_some, All}
 use Rattle.std.specs.List.{position}
-use Rattle.ip_core.specs.declared.refuse.Refuse.{Refuse}
-use Rattle.ip_core.specs.declared.refuse.Refuse.TheVariants.{AccessDenied, BadConfig, NotFound, NotReady}
-use Rattle.ip_core.specs.declared.refuse.Field.TheVariants as field
+use Rattle.efi_base.specs.declared.refuse.Refuse.{Refuse}
+use Rattle.efi_base.specs.declared.refuse.Refuse.TheVariants.{AccessDenied, BadConfig, NotFound, NotReady}
+use Rattle.efi_base.specs.declared.refuse.Field.TheVariants as field
 use Rattle.ip_core.specs.declared.routes.Route.{Route}
-use Rattle.ip_core.specs.Refusals.{first_of, refuse_if}
+use Rattle.efi_base.specs.Refusals.{first_of, refuse_if}
 
 -- the mask of so many ones, with zeros behind them
 abbrev pub prefix_mask : ℕ → ℕ

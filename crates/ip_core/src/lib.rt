@@ -5,8 +5,6 @@
 mod laws;
 // datagrams from fragments
 mod reasm;
-// why a call is refused
-mod refuse;
 // routes and next hops
 mod routes;
 // the memory of one pool
@@ -16,7 +14,6 @@ mod whole;
 
 pub use laws::{bytes_stand_for_fragments, datagrams_by_records, gives_datagrams};
 pub use reasm::{POOLS, Reasm};
-pub use refuse::{Field, Refuse};
 pub use routes::{ROUTES, Route, Routes};
 pub use slot::{LIFETIME, MOST_OCTETS};
 pub use whole::Whole;

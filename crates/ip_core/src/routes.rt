@@ -1,12 +1,11 @@
 //! Routes of IPv4, and the next hop of a destination (RFC 1812, section 5.2.4.3). Nothing here knows how a hop is
 //! reached.
 ghost use Rattle.std.specs.Prelude.{◌≡◌, [], ◌∷◌, ◌++◌, OnOk, OnErr, option_map};
-ghost use Rattle.ip_core.specs.Refusals.{RefusesExactly};
+ghost use Rattle.efi_base.specs.Refusals.{RefusesExactly};
 ghost use Rattle.ip_core.specs.Routing.{is_mask, is_good, is_same, place_of, add_refusal, remove_refusal, without, matches, is_longer, best_of, next_hop, FindsBest};
 
-use crate::refuse::{Field, Refuse};
 use arrayvec::ArrayVec;
-use efi_base::Ip4;
+use efi_base::{Field, Ip4, Refuse};
 use std::marker::Model;
 
 /// How many routes there may be.

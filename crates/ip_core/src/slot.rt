@@ -1,5 +1,5 @@
 //! The memory of one pool: the bytes of one datagram's fragments by their places (RFC 791, section 3.2).
-ghost use Rattle.std.specs.Prelude.{◌≡◌, ◌+◌, ◌≤◌, length, take, IfSome, IfNone, option_map};
+ghost use Rattle.std.specs.Prelude.{◌≡◌, ◌+◌, ◌≤◌, length, take, IfOk, IfSome, IfNone, option_map};
 ghost use Rattle.wire_ip4.specs.Seen.{packet_seen};
 ghost use Rattle.ip_core.specs.Pools.{Pool, key_of, is_key, is_of, lasts, most_bytes};
 ghost use Rattle.ip_core.specs.Bytes.{Bytes, bytes_kept, bytes_with, end_with};
@@ -51,7 +51,10 @@ impl Model for Slot {
 
 impl Slot {
     /// A slot of no pool. Only this call takes memory.
-    pub fn new(alloc: Global) -> Result<Slot, NoMemory> {
+    pub fn new(alloc: Global) -> Result<Slot, NoMemory>
+        ensures opened { IfOk result (λ s. s.opened ≡ 0) }
+        ensures kept { IfOk result (λ s. s.kept ≡ bytes_kept.nothing) }
+    {
         let window = Window::open(alloc, MOST_OCTETS)?;
         Ok(Slot {
             key: FragmentKey {

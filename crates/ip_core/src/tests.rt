@@ -1,6 +1,6 @@
 //! Routes and reassembly on cases from outside.
-use crate::{Field, Reasm, Refuse, Route, Routes, Whole};
-use efi_base::{Ip4, Tick};
+use crate::{Reasm, Route, Routes, Whole};
+use efi_base::{Field, Ip4, Refuse, Tick};
 use std::process::Abort;
 use wire_ip4::Ip;
 

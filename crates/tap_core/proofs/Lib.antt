@@ -1,5 +1,10 @@
 pub mod Counts
 pub mod HeardLaws
+pub mod Honest
+pub mod OneEnd
+pub mod OneThing
 pub mod Records
+pub mod Splits
+pub mod Steps
 pub mod Streams
-pub mod Watched
+pub mod Tapped

@@ -57,11 +57,11 @@ pub over-Follows : (most irs : ℕ) (board : Board) (d : Download) → Follows m
 over-Follows most irs board d f = ends-same board.end board.kept d.recv f.carries.stands.end (accepted-stands board f.carries.given d.recv f.carries.stands)
 
 -- what a segment that is a cut makes of what is kept
-after_segment-cut : (irs : ℕ) (board : Board) (s : Segment) → is_cut s ≡ true → after_segment irs board s ≡ after_cut irs tap_window (length (front board.kept)) board (cut_of s)
+pub after_segment-cut : (irs : ℕ) (board : Board) (s : Segment) → is_cut s ≡ true → after_segment irs board s ≡ after_cut irs tap_window (length (front board.kept)) board (cut_of s)
 unfolding after_segment
 after_segment-cut irs board s h = rw h refl
 
-after_segment-other : (irs : ℕ) (board : Board) (s : Segment) → is_cut s ≡ false → after_segment irs board s ≡ board
+pub after_segment-other : (irs : ℕ) (board : Board) (s : Segment) → is_cut s ≡ false → after_segment irs board s ≡ board
 unfolding after_segment
 after_segment-other irs board s h = rw h refl
 

@@ -1,14 +1,11 @@
 -- How far a download is followed.
-use Rattle.std.specs.Prelude.{◌≡◌, ℕ, List, [], ◌∷◌, ◌++◌, length, Option, Some, None}
-use Rattle.wire_l4.specs.Segment.{Segment}
-use Rattle.tcp_recv.specs.Stream.{Board, empty}
+use Rattle.std.specs.Prelude.{◌≡◌, ℕ, List, []}
+use Rattle.tcp_recv.specs.Stream.{Board}
 use Rattle.tcp_recv.specs.Receiver.{Receiver, Stands, untaken}
 use Rattle.load_core.specs.Taken.{HasTaken}
 use Rattle.load_core.specs.declared.load.Load.{Load}
 use Rattle.tap_core.specs.declared.download.Download.{Download}
-use Rattle.tap_core.specs.declared.follow.Ended.{Ended}
-use Rattle.tap_core.specs.Connections.{tap_window, board_after}
-use Rattle.tap_core.specs.Ends.{MeetNothing, EndsBehind}
+use Rattle.tap_core.specs.Connections.{tap_window}
 
 -- the load has taken in what was taken from the receiver, which holds what is kept of the stream
 pub record Carries (most : ℕ) (board : Board) (r : Receiver) (load : Load) : Type 0 where
@@ -23,10 +20,3 @@ pub record Follows (most irs : ℕ) (board : Board) (d : Download) : Type 0 wher
   pub irs_is : d.recv.irs ≡ irs
   pub own_irs : d.irs ≡ irs
   pub cap_is : d.recv.cap ≡ tap_window
-
--- the download ends at a record, and is followed up to it; or at none, and is followed to the last one
-abbrev pub FindsEnd : ℕ → ℕ → List (Option Segment) → Download → Option Ended → Type 0
-FindsEnd most irs heard d None = MeetNothing most irs empty heard × Follows most irs (board_after irs heard) d
-FindsEnd most irs heard d (Some e) =
-    (before : List (Option Segment)) × (last : Option Segment) × EndsBehind most irs heard before last e.end × (e.at ≡ length before)
-    × Follows most irs (board_after irs (before ++ last ∷ [])) d

@@ -6,7 +6,7 @@ use Rattle.ip_core.specs.Pools.{Pool}
 use Rattle.ip_core.specs.Bytes.{Bytes, bytes_kept}
 use Rattle.ip_core.specs.Datagrams.{Event, event_datagram, after_event}
 use Rattle.ip_core.specs.Frames.{event_of}
-use Rattle.tap_core.specs.Frames.{heard_packet}
+use Rattle.tap_core.specs.Frames.{any_packet, heard_packet}
 use Rattle.tap_core.specs.Heard.{segment_at}
 use Rattle.tap_core.specs.Openings.{Opening}
 
@@ -26,3 +26,7 @@ heard_from o pools (r ∷ records) = heard_at o pools r ∷ heard_from o (after_
 -- the pools behind the records
 abbrev pub pools_from : Opening → List (Pool Bytes) → List Record → List (Pool Bytes)
 pools_from o pools records = fold (after_event bytes_kept) pools (map (event_heard o) records)
+
+-- the pools behind the records, whoever sent them
+abbrev pub pools_sent : List Record → List (Pool Bytes)
+pools_sent records = fold (after_event bytes_kept) [] (map (event_of any_packet) records)

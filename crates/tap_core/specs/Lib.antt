@@ -1,14 +1,16 @@
 pub mod Answering
 pub mod Connections
+pub mod Counting
 pub mod Ends
-pub mod Finding
 pub mod Following
 pub mod Frames
 pub mod Heard
 pub mod Hearing
 pub mod Openings
+pub mod Peers
 pub mod Seen
 pub mod Segments
 pub mod Shown
 pub mod Shows
+pub mod Tapping
 pub mod Watching

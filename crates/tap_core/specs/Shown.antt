@@ -3,7 +3,7 @@ use Rattle.std.specs.Prelude.{◌≡◌, ℕ, ◌-◌, ⊤, Bool, not, List, len
 use Rattle.std.specs.Option.{option_map_or}
 use Rattle.efi_base.specs.declared.plain.Record.{Record}
 use Rattle.tap_core.specs.declared.ends.End.{End}
-use Rattle.tap_core.specs.declared.telling.Peer.{Peer}
+use Rattle.efi_base.specs.declared.plain.Peer.{Peer}
 use Rattle.tap_core.specs.declared.telling.Shown.{Shown}
 use Rattle.tap_core.specs.Frames.{is_sent}
 use Rattle.tap_core.specs.Openings.{Opening}

@@ -1,12 +1,12 @@
 //! The segment with which the peer accepts the connection that a SYN asks for (RFC 9293, section 3.5).
-ghost use Rattle.std.specs.Prelude.{◌≡◌, ◌+◌, ◌<◌, IfSome, length, take, option_map, ℕ};
+ghost use Rattle.std.specs.Prelude.{◌≡◌};
 ghost use Rattle.ip_core.specs.Bytes.{bytes_kept};
 ghost use Rattle.ip_core.specs.Datagrams.{after_event};
 ghost use Rattle.ip_core.specs.Seen.{whole_seen};
 ghost use Rattle.wire_l4.specs.Seen.{segment_seen};
-ghost use Rattle.tap_core.specs.Answering.{FindsAnswer, number_of};
+ghost use Rattle.tap_core.specs.Answering.{number_of};
 ghost use Rattle.tap_core.specs.Heard.{segment_in};
-ghost use Rattle.tap_core.specs.Hearing.{event_heard, heard_at, heard_from, pools_from};
+ghost use Rattle.tap_core.specs.Hearing.{event_heard, heard_at};
 ghost use Rattle.tap_core.specs.Seen.{syn_seen};
 ghost use Rattle.tap_core.specs.Segments.{accepts};
 
@@ -17,29 +17,8 @@ use efi_base::Record;
 use ip_core::{Reasm, Whole};
 use wire_l4::{ACK, RST, SYN, Tcp};
 
-/// The place among the records of the segment that accepts the connection, and its number.
-#[derive(Clone, Copy, PartialEq, Eq, Debug)]
-pub struct Answer {
-    pub at: usize,
-    pub irs: u32,
-}
-
-/// The first segment that is heard at these records and accepts the connection; records behind it aren't taken in.
-pub fn find_answer(syn: &Syn, reasm: &mut Reasm, records: &[Record]) -> Option<Answer>
-    ensures found { FindsAnswer (syn_seen syn.now).seq (heard_from (syn_seen syn.now) reasm.old records.now) result }
-    ensures within { IfSome result (λ a. a.at < length records.now) }
-    ensures pools { IfSome result (λ a. reasm.new ≡ pools_from (syn_seen syn.now) reasm.old (take (a.at + 1) records.now)) }
-{
-    for (at, record) in records.iter().enumerate() {
-        if let Some(irs) = answer_at(syn, reasm, record) {
-            return Some(Answer { at, irs });
-        }
-    }
-    None
-}
-
 /// Takes in the packet of a record, and answers the number of the segment that is heard at it and accepts the connection.
-fn answer_at(syn: &Syn, reasm: &mut Reasm, record: &Record) -> Option<u32>
+pub fn answer_at(syn: &Syn, reasm: &mut Reasm, record: &Record) -> Option<u32>
     ensures number { result ≡ number_of (syn_seen syn.now).seq (heard_at (syn_seen syn.now) reasm.old «record».now) }
     ensures pools { reasm.new ≡ after_event bytes_kept reasm.old (event_heard (syn_seen syn.now) «record».now) }
 {

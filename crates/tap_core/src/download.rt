@@ -50,8 +50,7 @@ impl Download {
 
     /// Takes in a segment, and answers whether it resets the connection.
     pub fn on_segment(&mut self, segment: &Tcp<'_>) -> Result<bool, NoMemory>
-        requires room { 0 < vec_len self.old.room }
-        ensures follows { (most irs : ℕ) (board : Board) → Follows most irs board self.old
+        ensures follows { (most irs : ℕ) (board : Board) → 0 < vec_len self.old.room → Follows most irs board self.old
             → IfOk result (λ reset. (reset ≡ is_reset irs board (segment_seen segment.now))
             × Follows most irs (after_segment irs board (segment_seen segment.now)) self.new) }
         ensures room { vec_len self.new.room ≡ vec_len self.old.room }
@@ -102,9 +101,8 @@ impl Download {
 
 /// Moves all octets that are there without a gap to the load.
 fn drain(recv: &mut Recv, room: &mut [u8], load: &mut Load) -> Result<(), NoMemory>
-    requires { 0 < length room.old }
     ensures carries { (most : ℕ) (board : Board) → Carries most board recv.old load.old → OnOk result (Carries most board recv.new load.new) }
-    ensures all { OnOk result (untaken recv.new ≡ []) }
+    ensures all { 0 < length room.old → OnOk result (untaken recv.new ≡ []) }
     ensures numbers { OnOk result ((recv.new.irs ≡ recv.old.irs) × (recv.new.cap ≡ recv.old.cap)) }
 {
     loop {

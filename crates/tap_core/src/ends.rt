@@ -2,8 +2,8 @@
 ghost use Rattle.std.specs.Prelude.{◌≡◌};
 ghost use Rattle.tap_core.specs.Ends.{end_of, end_without};
 
+use efi_base::{CodingField, Part};
 use load_core::Met;
-use wire_http::{CodingField, Part};
 
 /// How it ends. A later case is looked at only where none before it is met.
 #[derive(Clone, Copy, PartialEq, Eq, Debug)]

@@ -1,61 +1,31 @@
-//! The records behind the one that accepts the connection, up to the one at which the download ends.
-ghost use Rattle.std.specs.Prelude.{◌≡◌, ◌<◌, ℕ, IfOk, IfSome, length, vec_len};
+//! What a record behind the one that accepts the connection adds to the download.
+ghost use Rattle.std.specs.Prelude.{◌≡◌, ◌<◌, ℕ, IfOk, vec_len};
 ghost use Rattle.ip_core.specs.Bytes.{bytes_kept};
 ghost use Rattle.ip_core.specs.Datagrams.{after_event};
 ghost use Rattle.ip_core.specs.Seen.{whole_seen};
-ghost use Rattle.tcp_recv.specs.Stream.{Board, empty};
+ghost use Rattle.tcp_recv.specs.Stream.{Board};
 ghost use Rattle.tap_core.specs.Connections.{after_heard, is_reset_at};
-ghost use Rattle.tap_core.specs.Following.{FindsEnd, Follows};
+ghost use Rattle.tap_core.specs.Following.{Follows};
 ghost use Rattle.tap_core.specs.Heard.{segment_in};
-ghost use Rattle.tap_core.specs.Hearing.{event_heard, heard_at, heard_from};
+ghost use Rattle.tap_core.specs.Hearing.{event_heard, heard_at};
 ghost use Rattle.tap_core.specs.Seen.{syn_seen};
 
 use crate::download::Download;
-use crate::ends::End;
 use crate::heard::segment_of;
 use crate::opening::Syn;
 use crate::packets::read_heard;
 use efi_base::{NoMemory, Record};
 use ip_core::{Reasm, Whole};
 
-/// How the download ends, and the place of the record at which it does.
-#[derive(Clone, Copy, PartialEq, Eq, Debug)]
-pub struct Ended {
-    pub at: usize,
-    pub end: End,
-}
-
-/// Takes in the records until the download ends.
-pub fn find_end(
-    syn: &Syn,
-    reasm: &mut Reasm,
-    download: &mut Download,
-    records: &[Record],
-) -> Result<Option<Ended>, NoMemory>
-    requires room { 0 < vec_len download.old.room }
-    ensures within { IfOk result (λ o. IfSome o (λ e. e.at < length records.now)) }
-    ensures found { (most irs : ℕ) → Follows most irs empty download.old
-        → IfOk result (FindsEnd most irs (heard_from (syn_seen syn.now) reasm.old records.now) download.new) }
-{
-    for (at, record) in records.iter().enumerate() {
-        let reset = take_in(syn, reasm, download, record)?;
-        if let Some(end) = download.end(reset) {
-            return Ok(Some(Ended { at, end }));
-        }
-    }
-    Ok(None)
-}
-
 /// Takes in a record, and answers whether the segment that is heard at it resets the connection.
-fn take_in(
+pub fn take_in(
     syn: &Syn,
     reasm: &mut Reasm,
     download: &mut Download,
     record: &Record,
 ) -> Result<bool, NoMemory>
-    requires room { 0 < vec_len download.old.room }
     ensures pools { reasm.new ≡ after_event bytes_kept reasm.old (event_heard (syn_seen syn.now) «record».now) }
-    ensures follows { (most irs : ℕ) (board : Board) → Follows most irs board download.old
+    ensures follows { (most irs : ℕ) (board : Board) → 0 < vec_len download.old.room → Follows most irs board download.old
         → IfOk result (λ reset. (reset ≡ is_reset_at irs board (heard_at (syn_seen syn.now) reasm.old «record».now))
         × Follows most irs (after_heard irs board (heard_at (syn_seen syn.now) reasm.old «record».now)) download.new) }
     ensures room { vec_len download.new.room ≡ vec_len download.old.room }
@@ -72,8 +42,7 @@ fn take_in(
 
 /// The same for the datagram that exists at a record.
 fn take_datagram(syn: &Syn, download: &mut Download, whole: &Whole<'_>) -> Result<bool, NoMemory>
-    requires room { 0 < vec_len download.old.room }
-    ensures follows { (most irs : ℕ) (board : Board) → Follows most irs board download.old
+    ensures follows { (most irs : ℕ) (board : Board) → 0 < vec_len download.old.room → Follows most irs board download.old
         → IfOk result (λ reset. (reset ≡ is_reset_at irs board (segment_in (syn_seen syn.now) (whole_seen whole.now)))
         × Follows most irs (after_heard irs board (segment_in (syn_seen syn.now) (whole_seen whole.now))) download.new) }
     ensures room { vec_len download.new.room ≡ vec_len download.old.room }

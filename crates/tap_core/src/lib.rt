@@ -7,20 +7,33 @@ mod answer;
 mod download;
 // how a download ends
 mod ends;
-// the records up to the one at which the download ends
+// what a record adds to a download
 mod follow;
 // what the station hears from its peer
 mod heard;
+// what holds of the definitions
+mod laws;
+// the station, and what it hears record by record
+mod listening;
 // the segment that asks for the connection
 mod opening;
 // the packets that frames hold
 mod packets;
+// what was seen
+mod passive;
+// how far a tap is
+mod stages;
+// the tap that hears record by record
+mod tapping;
 // what a report tells
 mod telling;
-// the whole of it
-mod passive;
+#[cfg(test)]
+mod tests;
 
 pub use ends::End;
-pub use opening::{Found, Syn, find_opening};
-pub use passive::{Seen, watch};
-pub use telling::{Peer, Shown};
+pub use laws::{
+    honest_body, honest_front, honest_success, shows_one_thing, succeeds_exactly, success_has_body,
+};
+pub use passive::Seen;
+pub use tapping::Tap;
+pub use telling::Shown;

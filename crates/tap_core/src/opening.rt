@@ -1,19 +1,17 @@
 //! The segment with which a capture's connection begins: the first that asks for one. It shows the station that is
 //! watched, and its peer.
-ghost use Rattle.std.specs.Prelude.{◌≡◌, ◌<◌, IfOk, IfSome, length, option_map};
+ghost use Rattle.std.specs.Prelude.{◌≡◌, option_map};
 ghost use Rattle.ip_core.specs.Bytes.{bytes_kept};
 ghost use Rattle.ip_core.specs.Datagrams.{after_event, event_datagram};
 ghost use Rattle.ip_core.specs.Frames.{event_of};
 ghost use Rattle.ip_core.specs.Seen.{whole_seen};
-ghost use Rattle.tap_core.specs.Finding.{FindsOpening};
 ghost use Rattle.tap_core.specs.Frames.{any_packet};
 ghost use Rattle.tap_core.specs.Openings.{opening_at, opening_in};
 ghost use Rattle.tap_core.specs.Seen.{syn_seen};
 
 use crate::packets::read_any;
-use efi_base::{Ip4, Mac, NoMemory, Record};
+use efi_base::{Ip4, Mac, Record};
 use ip_core::{Reasm, Whole};
-use std::alloc::Global;
 use wire_l4::{ACK, SYN, read_tcp_unverified};
 use wire_link::read_ether;
 
@@ -32,29 +30,8 @@ pub struct Syn {
     pub seq: u32,
 }
 
-/// The segment that asks for a capture's connection, and the place of its record.
-#[derive(Clone, Copy, PartialEq, Eq, Debug)]
-pub struct Found {
-    pub at: usize,
-    pub syn: Syn,
-}
-
-/// The first segment of the records that asks for a connection, also in a datagram that came in fragments.
-pub fn find_opening(alloc: Global, records: &[Record]) -> Result<Option<Found>, NoMemory>
-    ensures found { IfOk result (FindsOpening records.now) }
-    ensures within { IfOk result (λ o. IfSome o (λ f. f.at < length records.now)) }
-{
-    let mut reasm = Reasm::new(alloc)?;
-    for (at, record) in records.iter().enumerate() {
-        if let Some(syn) = asked_at(&mut reasm, record) {
-            return Ok(Some(Found { at, syn }));
-        }
-    }
-    Ok(None)
-}
-
 /// Takes in the packet of a record, and answers what the datagram asks for that exists at it.
-fn asked_at(reasm: &mut Reasm, record: &Record) -> Option<Syn>
+pub fn asked_at(reasm: &mut Reasm, record: &Record) -> Option<Syn>
     ensures asked { option_map syn_seen result ≡ opening_at «record».now (event_datagram bytes_kept reasm.old (event_of any_packet «record».now)) }
     ensures pools { reasm.new ≡ after_event bytes_kept reasm.old (event_of any_packet «record».now) }
 {

@@ -6,10 +6,10 @@ use Rattle.tap_core.specs.Shown.{Tells}
 use Rattle.tap_core.proofs.passive.seen_of.Goals as goal
 
 pub returns : goal.returns
-returns c = λ most irs board f.
+returns c = λ most irs board upto f counted.
     let o = Some (syn_seen c.args.syn.now) in
     record {
-      tells = subst (λ n. Tells c.args.end o n (is_over board) c.args.upto.now c.shown_with.result) (c.accepted.ensures most irs board f)
-          (subst (λ b. Tells c.args.end o c.accepted.result b c.args.upto.now c.shown_with.result) (c.ended.ensures most irs board f) c.shown_with.ensures);
+      tells = subst (λ n. Tells c.args.end o n (is_over board) upto c.shown_with.result) (c.accepted.ensures most irs board f)
+          (subst (λ b. Tells c.args.end o c.accepted.result b upto c.shown_with.result) (c.ended.ensures most irs board f) (c.shown_with.ensures upto counted));
       body = λ n e body whole le. c.into_body.ensures most irs board f body whole le;
     }

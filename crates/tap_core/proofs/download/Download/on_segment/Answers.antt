@@ -1,5 +1,5 @@
 -- A segment that is no cut changes nothing, and a cut is taken in and moved to the load.
-use Rattle.std.proofs.Common.{◌≡◌, ◌∙◌, sym, ap, subst}
+use Rattle.std.proofs.Common.{◌≡◌, ◌<◌, ◌∙◌, sym, ap, subst}
 use Rattle.tcp_recv.specs.Stream.{after_cut}
 use Rattle.tcp_recv.specs.Receiver.{Stands}
 use Rattle.wire_l4.specs.Seen.{segment_seen}
@@ -9,14 +9,14 @@ use Rattle.tap_core.proofs.Streams.{follows-other, after-Follows, reset-Follows}
 use Rattle.tap_core.proofs.download.Download.on_segment.Goals as goal
 
 pub returns-then-not-is_cut-clause-follows : goal.returns-then-not-is_cut-clause-follows
-returns-then-not-is_cut-clause-follows c = λ most irs board f.
+returns-then-not-is_cut-clause-follows c = λ most irs board room f.
     let s = segment_seen c.args.segment.now in (
       c.is_reset-reset.ensures ∙ reset-Follows most irs board c.args.self.now s c.accepted.result f c.accepted.ensures.count,
       follows-other most irs board c.args.self.now s (sym c.is_cut.ensures ∙ c.if-not-is_cut.true) f,
     )
 
 pub returns-clause-follows : goal.returns-clause-follows
-returns-clause-follows c = λ most irs board f.
+returns-clause-follows c = λ most irs board room f.
     let s = segment_seen c.args.segment.now in
     let d = c.args.self.now in
     let given = f.carries.given in
@@ -31,7 +31,7 @@ returns-clause-follows c = λ most irs board f.
       c.is_reset-reset.ensures ∙ reset-Follows most irs board d s c.accepted.result f c.accepted.ensures.count,
       record {
         carries = c.in_ok-drain.ensures.carries most (after_segment irs board s) carried;
-        all_taken = c.in_ok-drain.ensures.all;
+        all_taken = c.in_ok-drain.ensures.all (subst (λ n. 0 < n) (sym c.deref_mut.ensures.len) room);
         irs_is = c.in_ok-drain.ensures.numbers.0 ∙ c.on_cut.ensures.irs ∙ f.irs_is;
         own_irs = f.own_irs;
         cap_is = c.in_ok-drain.ensures.numbers.1 ∙ c.on_cut.ensures.cap ∙ f.cap_is;

@@ -1,0 +1,30 @@
+-- What is seen at each stage.
+use Rattle.std.proofs.Common.{◌∙◌, None, false, subst, rules}
+use Rattle.tap_core.specs.Connections.{board_after}
+use Rattle.tap_core.specs.declared.ends.End.TheVariants.{NoConnection}
+use Rattle.tap_core.specs.Seen.{syn_seen}
+use Rattle.tap_core.specs.Shown.{Tells}
+use Rattle.tap_core.specs.Tapping.{StandsFor}
+use Rattle.tap_core.proofs.Tapped.{seen-unopened, seen-unanswered, seen-late, seen-end}
+use Rattle.tap_core.proofs.stages.seen_at.Goals as goal
+
+pub returns-in-Opening : goal.returns-in-Opening
+returns-in-Opening c = λ most records st.
+    let w = subst (StandsFor most records) c.in-Opening.is st in
+    seen-unopened most records _ w.none
+    (record { tells = subst (λ l. Tells NoConnection None 0 false l c.shown_without.result) (c.deref.ensures.value ∙ w.kept) c.shown_without.ensures; body = λ n e. search rules })
+
+pub returns-in-Answering : goal.returns-in-Answering
+returns-in-Answering c = λ most records st.
+    let a = subst (StandsFor most records) c.in-Answering.is st in
+    seen-unanswered most records (syn_seen c.in-Answering.listener.syn) a.at _ a.is_first a.none
+    (record { tells = c.shown_with.ensures records a.listens.counts; body = λ n e. search rules })
+
+pub returns-in-Following : goal.returns-in-Following
+returns-in-Following c = λ most records st.
+    let f = subst (StandsFor most records) c.in-Following.is st in
+    seen-late most records (syn_seen c.in-Following.listener.syn) f.irs f.place f.heard _ f.connection f.nothing
+    (c.seen_of.ensures most f.irs (board_after f.irs f.heard) records f.follows f.listens.counts)
+
+pub returns-in-Ended : goal.returns-in-Ended
+returns-in-Ended c = λ most records st. seen-end most records c.in-Ended.seen (subst (StandsFor most records) c.in-Ended.is st)

@@ -1,0 +1,203 @@
+//! What a tap tells of small captures, whose frames were made by another program.
+use crate::{End, Seen, Tap};
+use efi_base::{Bytes, Record, Tick};
+use std::alloc::Global;
+use std::process::Abort;
+use std::test::Fail;
+
+/// The station's segment that asks for a connection, from 02:00:00:00:00:01.
+const SYN: &str = "\
+    02000000000202000000000108004500002800010000400666cd0a0000020a000001c001005000010000000000005002\
+    ffffdb8d0000";
+
+/// The peer's segment that accepts it.
+const ACCEPT: &str = "\
+    02000000000102000000000208004500002800010000400666cd0a0000010a0000020050c001000003e8000100015012\
+    ffffd7940000";
+
+/// The same in two fragments.
+const ACCEPT_FRONT: &str = "\
+    02000000000102000000000208004500002400072000400646cb0a0000010a0000020050c001000003e8000100015012\
+    ffff";
+
+const ACCEPT_REST: &str =
+    "02000000000102000000000208004500001800070002400666d50a0000010a000002d7940000";
+
+/// A response whose body is the octet `A`.
+const WHOLE: &str = "\
+    02000000000102000000000208004500004f00020000400666a50a0000010a0000020050c001000003e9000100015018\
+    ffffe7660000485454502f312e3120323030204f4b0d0a436f6e74656e742d4c656e6774683a20310d0a0d0a41";
+
+/// The peer resets the connection, on which nothing was heard.
+const RESET: &str = "\
+    02000000000102000000000208004500002800030000400666cb0a0000010a0000020050c001000003e9000100015014\
+    ffffd7910000";
+
+/// A frame of the station without a packet.
+const OTHER: &str = "ffffffffffff0200000000010806";
+
+/// The frames that a tap hears, each two ticks behind the one before, and what it tells.
+#[derive(Clone, Copy)]
+struct Case<'a> {
+    name: &'a str,
+    frames: &'a [&'a str],
+    most: u32,
+    end: End,
+    peer: bool,
+    accepted: u64,
+    tick: u64,
+    sent: u64,
+    heard: u64,
+    body: &'a [u8],
+}
+
+fn digit(code: u8) -> u8 {
+    match code {
+        b'0'..=b'9' => code - b'0',
+        b'a'..=b'f' => code - b'a' + 10,
+        _ => 0,
+    }
+}
+
+/// The octets that pairs of hexadecimal digits write.
+fn from_hex(alloc: Global, text: &str) -> Result<Bytes, Fail> {
+    let mut octets = Vec::new(alloc);
+    for pair in text.as_bytes().chunks_exact(2) {
+        let mut octet = 0u8;
+        for code in pair {
+            octet = (octet << 4) | digit(*code);
+        }
+        octets.push(octet)?;
+    }
+    Ok(Bytes::from_vec(octets))
+}
+
+/// What a tap tells of the frames.
+fn heard(rt: &impl Abort, alloc: Global, frames: &[&str], most: u32) -> Result<Seen, Fail> {
+    let mut tap = Tap::new(alloc, most).expect(rt, "memory");
+    let mut tick = 0u32;
+    for frame in frames {
+        let frame = from_hex(alloc, frame)?;
+        let record = Record {
+            tick: Tick(tick as u64),
+            frame,
+        };
+        tap.hear(record).expect(rt, "memory");
+        tick = tick.wrapping_add(2);
+    }
+    Ok(tap.finish())
+}
+
+fn check<R: Abort + AllocGlobal>(rt: &R, case: &Case) -> Result<(), Fail> {
+    let seen = heard(rt, rt.alloc(), case.frames, case.most)?;
+    let name = case.name;
+    assert_eq!(rt; seen.shown.end, case.end, "{name}");
+    assert_eq!(rt; seen.shown.peer.is_some(), case.peer, "{name}");
+    assert_eq!(rt; seen.shown.accepted, case.accepted, "{name}");
+    assert_eq!(rt; seen.shown.tick.0, case.tick, "{name}");
+    assert_eq!(rt; seen.shown.sent, case.sent, "{name}");
+    assert_eq!(rt; seen.shown.heard, case.heard, "{name}");
+    assert_eq!(rt; seen.body.as_slice(), case.body, "{name}");
+    Ok(())
+}
+
+#[test]
+fn tells_by_the_table(rt: HostRuntime) -> Result<(), Fail> {
+    let whole = Case {
+        name: "a whole response",
+        frames: &[SYN, ACCEPT, WHOLE],
+        most: 1,
+        end: End::Success(1),
+        peer: true,
+        accepted: 39,
+        tick: 4,
+        sent: 1,
+        heard: 2,
+        body: b"A",
+    };
+    let cases = [
+        Case {
+            name: "records behind the end",
+            frames: &[SYN, ACCEPT, WHOLE, RESET, SYN, OTHER],
+            ..whole
+        },
+        Case {
+            name: "what the station sent before",
+            frames: &[OTHER, ACCEPT, SYN, ACCEPT, WHOLE],
+            tick: 8,
+            sent: 2,
+            heard: 3,
+            ..whole
+        },
+        Case {
+            name: "a fragment before the connection is asked for",
+            frames: &[ACCEPT_FRONT, SYN, ACCEPT_REST, WHOLE],
+            tick: 6,
+            heard: 3,
+            ..whole
+        },
+        Case {
+            name: "a buffer that is too short",
+            most: 0,
+            end: End::BufferTooSmall(1),
+            body: b"",
+            ..whole
+        },
+        Case {
+            name: "nothing",
+            frames: &[],
+            end: End::NoConnection,
+            peer: false,
+            accepted: 0,
+            tick: 0,
+            sent: 0,
+            heard: 0,
+            body: b"",
+            ..whole
+        },
+        Case {
+            name: "no segment that asks",
+            frames: &[OTHER, ACCEPT, WHOLE],
+            end: End::NoConnection,
+            peer: false,
+            accepted: 0,
+            sent: 0,
+            heard: 3,
+            body: b"",
+            ..whole
+        },
+        Case {
+            name: "no answer",
+            frames: &[SYN, WHOLE],
+            end: End::NoConnection,
+            accepted: 0,
+            tick: 2,
+            heard: 1,
+            body: b"",
+            ..whole
+        },
+        Case {
+            name: "a reset",
+            frames: &[SYN, ACCEPT, RESET, WHOLE],
+            end: End::Reset,
+            accepted: 0,
+            body: b"",
+            ..whole
+        },
+        Case {
+            name: "the capture ends first",
+            frames: &[SYN, ACCEPT],
+            end: End::OutOfTime,
+            accepted: 0,
+            tick: 2,
+            heard: 1,
+            body: b"",
+            ..whole
+        },
+        whole,
+    ];
+    for case in &cases {
+        check(&rt, case)?;
+    }
+    Ok(())
+}

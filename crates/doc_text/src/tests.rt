@@ -1,0 +1,171 @@
+//! Whole reports, and the word of each outcome.
+use crate::{Leased, Outcome, Report, What, report_text};
+use efi_base::{Bytes, CodingField, Ip4, Part, Peer, Tick};
+use std::process::Abort;
+use std::test::Fail;
+
+/// A report, and its text but for its last two lines.
+#[derive(Clone, Copy)]
+struct Case {
+    lease: Option<Leased>,
+    uri: Option<&'static str>,
+    peer: Option<Peer>,
+    accepted: u64,
+    fin: bool,
+    outcome: Outcome,
+    counts: (u64, u64, u64),
+    text: &'static str,
+}
+
+/// Of a boot: the URI has an octet that isn't visible.
+const BOOT: Case = Case {
+    lease: Some(Leased {
+        addr: Ip4(0xC0A8_0732),
+        mask: 0xFFFF_FF00,
+    }),
+    uri: Some("http://192.168.7.1/im\x7Fage"),
+    peer: Some(Peer {
+        addr: Ip4(0xC0A8_0701),
+        port: 80,
+    }),
+    accepted: 58,
+    fin: true,
+    outcome: Outcome::Success(1),
+    counts: (10, 7, 5),
+    text: "efiboot report 1\nlease 192.168.7.50 255.255.255.0\nuri http://192.168.7.1/im?age\npeer 192.168.7.1:80\n\
+        accepted 58 fin\noutcome success 1\ntick 10 sent 7 heard 5\n",
+};
+
+/// Of a capture.
+const EXTRACT: Case = Case {
+    lease: None,
+    uri: None,
+    peer: Some(Peer {
+        addr: Ip4(0x0A00_0001),
+        port: 80,
+    }),
+    accepted: 39,
+    fin: false,
+    outcome: Outcome::Success(1),
+    counts: (4, 1, 2),
+    text: "efiboot report 1\nlease -\nuri -\npeer 10.0.0.1:80\naccepted 39 open\noutcome success 1\ntick 4 sent 1 heard 2\n",
+};
+
+/// Of a capture without records.
+const EMPTY: Case = Case {
+    lease: None,
+    uri: None,
+    peer: None,
+    accepted: 0,
+    fin: false,
+    outcome: Outcome::NoConnection,
+    counts: (0, 0, 0),
+    text: "efiboot report 1\nlease -\nuri -\npeer -\naccepted 0 open\noutcome no-connection\ntick 0 sent 0 heard 0\n",
+};
+
+/// The largest numbers, and the URI's octets at the ends of what is visible.
+const LARGEST: Case = Case {
+    lease: Some(Leased {
+        addr: Ip4(0xFFFF_FFFF),
+        mask: 0,
+    }),
+    uri: Some("\x00 !~\x7F\u{E9}"),
+    peer: Some(Peer {
+        addr: Ip4(0x0001_0203),
+        port: 65535,
+    }),
+    accepted: 18_446_744_073_709_551_615,
+    fin: true,
+    outcome: Outcome::NoOffer(4_294_967_295),
+    counts: (
+        18_446_744_073_709_551_615,
+        18_446_744_073_709_551_615,
+        18_446_744_073_709_551_615,
+    ),
+    text: "efiboot report 1\nlease 255.255.255.255 0.0.0.0\nuri ??!~???\npeer 0.1.2.3:65535\n\
+        accepted 18446744073709551615 fin\noutcome no-offer 4294967295\n\
+        tick 18446744073709551615 sent 18446744073709551615 heard 18446744073709551615\n",
+};
+
+fn check<R: Abort + AllocGlobal>(rt: &R, case: &Case) -> Result<(), Fail> {
+    let alloc = rt.alloc();
+    let uri = match case.uri {
+        Some(text) => Some(Bytes::from_vec(String::from_str(alloc, text)?.into_bytes())),
+        None => None,
+    };
+    let (tick, sent, heard) = case.counts;
+    let report = Report {
+        lease: case.lease,
+        uri,
+        peer: case.peer,
+        accepted: case.accepted,
+        fin: case.fin,
+        outcome: case.outcome,
+        tick: Tick(tick),
+        sent,
+        heard,
+    };
+    let text = report_text(alloc, &report);
+    let Ok(text) = text else {
+        panic!(rt; "no memory");
+    };
+    assert_eq!(rt; text.as_slice(), case.text.as_bytes());
+    Ok(())
+}
+
+fn check_word<R: Abort + AllocGlobal>(rt: &R, outcome: Outcome, word: &str) -> Result<(), Fail> {
+    let text = outcome.to_string(rt.alloc())?;
+    assert_eq!(rt; text.as_str(), word);
+    Ok(())
+}
+
+#[test]
+fn writes_by_the_table(rt: HostRuntime) -> Result<(), Fail> {
+    for case in [BOOT, EXTRACT, EMPTY, LARGEST] {
+        check(&rt, &case)?;
+    }
+    Ok(())
+}
+
+#[test]
+fn words_by_the_table(rt: HostRuntime) -> Result<(), Fail> {
+    let cases = [
+        (Outcome::Success(0), "success 0"),
+        (Outcome::NoOffer(3), "no-offer 3"),
+        (Outcome::NoAck, "no-ack"),
+        (Outcome::Nak, "nak"),
+        (Outcome::BadUri, "bad-uri"),
+        (Outcome::Unsupported(What::Scheme), "unsupported scheme"),
+        (Outcome::Unsupported(What::Host), "unsupported host"),
+        (Outcome::NoDns, "no-dns"),
+        (Outcome::NameError(3), "name-error 3"),
+        (Outcome::NoAddress, "no-address"),
+        (Outcome::DnsTimeout, "dns-timeout"),
+        (Outcome::NoRoute, "no-route"),
+        (Outcome::NoMapping, "no-mapping"),
+        (Outcome::Refused, "refused"),
+        (Outcome::ConnectTimeout, "connect-timeout"),
+        (Outcome::SendTimeout, "send-timeout"),
+        (Outcome::Reset, "reset"),
+        (Outcome::Idle, "idle"),
+        (Outcome::Truncated(12), "truncated 12"),
+        (Outcome::BadResponse(Part::Head), "bad-response head"),
+        (Outcome::BadResponse(Part::Length), "bad-response length"),
+        (Outcome::BadResponse(Part::Chunk), "bad-response chunk"),
+        (Outcome::BadResponse(Part::Trailer), "bad-response trailer"),
+        (Outcome::HttpStatus(404), "http-status 404"),
+        (Outcome::Coding(CodingField::Content), "coding content"),
+        (Outcome::Coding(CodingField::Transfer), "coding transfer"),
+        (Outcome::BufferTooSmall(100), "buffer-too-small 100"),
+        (Outcome::OutOfTime, "out-of-time"),
+        (Outcome::Aborted, "aborted"),
+        (Outcome::NoConnection, "no-connection"),
+        (Outcome::TftpError(65535), "tftp-error 65535"),
+        (Outcome::TftpTimeout, "tftp-timeout"),
+        (Outcome::TooManyBlocks, "too-many-blocks"),
+    ];
+    for (outcome, word) in cases {
+        check_word(&rt, outcome, word)?;
+    }
+    Ok(())
+}

@@ -1,2 +1,4 @@
+pub mod Exact
 pub mod Inputs
 pub mod Successes
+pub mod Written

@@ -1,13 +1,15 @@
 -- What is written for an input.
-use Rattle.std.specs.Prelude.{◌≡◌, ◌⊎◌, ℕ, List, [], ◌∷◌, ◌++◌, codes, decimal}
+use Rattle.std.specs.Prelude.{◌≡◌, ◌⊎◌, ⊤, ℕ, List, [], ◌∷◌, ◌++◌, codes, decimal}
 use Rattle.efi_base.specs.declared.plain.Record.{Record}
+use Rattle.boot_words.specs.declared.task.ExtractTask.{ExtractTask}
+use Rattle.tap_core.specs.Watching.{IsSeen}
 use Rattle.wire_pcap.specs.Place.{IsThePlace}
 use Rattle.wire_pcap.specs.Reading.{IsWhole}
-use Rattle.boot_top.specs.Extract.{IsImage, EndsOtherwise}
-use Rattle.boot_top.specs.declared.input.Input.{Input}
-use Rattle.boot_top.specs.declared.input.Input.TheVariants as input
-use Rattle.boot_top.specs.declared.image.Answer.{Answer}
-use Rattle.boot_top.specs.declared.image.Answer.TheVariants as answer
+use Rattle.boot_top.specs.Extract.{Succeeded, EndedOtherwise}
+use Rattle.boot_top.specs.declared.watching.Watched.{Watched}
+use Rattle.boot_top.specs.declared.watching.Watched.TheVariants as watched
+use Rattle.boot_top.specs.declared.extract.Answer.{Answer}
+use Rattle.boot_top.specs.declared.extract.Answer.TheVariants as answer
 
 -- the octets are no capture, in any form
 abbrev pub IsNoCapture : List ℕ → Type 0
@@ -25,18 +27,24 @@ bad_input_text n = codes "bad input at " ++ (decimal n ++ 10 ∷ [])
 abbrev pub IsRefusal : List ℕ → List ℕ → Type 0
 IsRefusal bytes text = (n : ℕ) × IsRefused bytes n × (text ≡ bad_input_text n)
 
--- what the octets of an input hold
-abbrev pub IsInput : List ℕ → Input → Type 0
-IsInput bytes (input.Records records) = IsWhole bytes [] records.items
-IsInput bytes (input.BadAt n) = IsRefused bytes n
+-- what was watched of the octets of an input, with a buffer of so many octets
+abbrev pub IsWatched : ℕ → List ℕ → Watched → Type 0
+IsWatched most bytes (watched.Capture seen) = (records : List Record) × IsWhole bytes [] records × IsSeen most records seen
+IsWatched most bytes (watched.BadAt n) = IsRefused bytes n
 
--- what is answered to them, with a buffer of so many octets: the image, the line that refuses them, or nothing where the
--- download ends otherwise than with success
-abbrev pub IsAnswered : ℕ → List ℕ → Answer → Type 0
-IsAnswered most bytes (answer.Image image) = IsImage most bytes image.items
-IsAnswered most bytes (answer.Refused line) = IsRefusal bytes line.items
-IsAnswered most bytes answer.Ended = EndsOtherwise most bytes
+-- what is answered to them: what is written with success, or where the download ends otherwise, or the line that refuses
+-- them
+abbrev pub IsAnswered : ExtractTask → List ℕ → Answer → Type 0
+IsAnswered task bytes (answer.Success text) = Succeeded task bytes text.items
+IsAnswered task bytes (answer.Otherwise text) = EndedOtherwise task bytes text.items
+IsAnswered task bytes (answer.Refused line) = IsRefusal bytes line.items
+
+-- there is nothing to write where the download ends otherwise
+abbrev pub HasNoReport : Answer → Type 0
+HasNoReport (answer.Success text) = ⊤
+HasNoReport (answer.Otherwise text) = text.items ≡ []
+HasNoReport (answer.Refused line) = ⊤
 
 -- what may be written for them
-abbrev pub IsAnswerText : ℕ → List ℕ → List ℕ → Type 0
-IsAnswerText most bytes text = IsImage most bytes text ⊎ IsRefusal bytes text
+abbrev pub IsAnswerText : ExtractTask → List ℕ → List ℕ → Type 0
+IsAnswerText task bytes text = Succeeded task bytes text ⊎ EndedOtherwise task bytes text ⊎ IsRefusal bytes text

@@ -1,16 +1,40 @@
 //! The program's work: its command line, and the image that a capture of a download shows.
 #![tactic(auto)]
 
+// the input, read to its end in pieces
+mod capture;
+#[cfg(test)]
+mod capture_tests;
 // the command that takes the image out of a capture
-mod image;
-// the records of a capture, or the place at which it is none
-mod input;
+mod extract;
+#[cfg(test)]
+mod extract_responses;
+#[cfg(test)]
+mod extract_segments;
+#[cfg(test)]
+mod extract_tests;
+#[cfg(test)]
+mod frame_tests;
+#[cfg(test)]
+mod hostile_heads;
+#[cfg(test)]
+mod hostile_packets;
+#[cfg(test)]
+mod hostile_segments;
+#[cfg(test)]
+mod hostile_steps;
+#[cfg(test)]
+mod hostile_tests;
+// the report of what a capture shows
+mod report;
 // the exit statuses
 mod status;
 #[cfg(test)]
 mod tests;
 // the top call
 mod top;
+// an input in pieces, and what the capture that it is shows
+mod watching;
 
 pub use boot_words::capture_name;
 pub use status::{

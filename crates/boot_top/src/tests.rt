@@ -152,6 +152,36 @@ fn answers_by_the_table(rt: HostRuntime) -> Result<(), Fail> {
             ..PLAIN
         },
         Case {
+            name: "an incomplete head of a record",
+            length: 30,
+            status: BAD_INPUT,
+            output: "bad input at 24\n",
+            ..PLAIN
+        },
+        Case {
+            name: "the report",
+            words: "extract --emit report",
+            output: "efiboot report 1\nlease -\nuri -\npeer 10.0.0.1:80\naccepted 39 open\noutcome success 1\ntick 4 sent 1 heard 2\n",
+            ..PLAIN
+        },
+        Case {
+            name: "the report of a capture without records",
+            words: "extract --emit=report",
+            length: 24,
+            status: ENDED_OTHERWISE,
+            output: "efiboot report 1\nlease -\nuri -\npeer -\naccepted 0 open\noutcome no-connection\ntick 0 sent 0 heard 0\n",
+            ..PLAIN
+        },
+        Case {
+            name: "the first write of a report fails",
+            words: "extract --emit report",
+            length: 24,
+            failing_write: 1,
+            status: SINK_FAILED,
+            output: "",
+            ..PLAIN
+        },
+        Case {
             name: "a buffer that just holds the image",
             words: "extract --buffer=1 --emit image",
             ..PLAIN
@@ -213,7 +243,6 @@ fn reads_nothing_for_other_words(rt: HostRuntime) -> Result<(), Fail> {
         ("extrac", BAD_WORDS),
         ("extract extract", BAD_WORDS),
         ("make", BAD_WORDS),
-        ("extract --emit report", NOT_BUILT),
         ("boot --capture x", NOT_BUILT),
         ("make --seed 1", NOT_BUILT),
     ] {

@@ -1,0 +1,182 @@
+//! The command `extract`: the image that a capture shows, or the report of it, or the line that refuses the input.
+ghost use Rattle.std.specs.Prelude.{◌≡◌, ◌≢◌, ◌⊎◌, ◌<◌, List, [], ℕ, length, string_bytes, IfOk, IfSome};
+ghost use Rattle.std.specs.Io.KnownBytes.{Appends, IsAtEnd};
+ghost use Rattle.efi_base.specs.Causes.{AppendsFront, Rose};
+ghost use Rattle.efi_base.specs.declared.plain.Record.{Record};
+ghost use Rattle.tcp_recv.specs.Stream.{front, is_over};
+ghost use Rattle.tap_core.specs.Shown.{Tells};
+ghost use Rattle.tap_core.specs.Shows.{Telling, Shows};
+ghost use Rattle.tap_core.specs.Watching.{IsSeen};
+ghost use Rattle.wire_pcap.specs.Reading.{IsWhole};
+ghost use Rattle.boot_top.specs.Answers.{HasNoReport, IsAnswered, IsAnswerText, IsRefusal, IsWatched, bad_input_text};
+ghost use Rattle.boot_top.specs.Extract.{EndedOtherwise, Succeeded, is_success};
+ghost use Rattle.boot_words.specs.declared.task.Emit.TheVariants as emit;
+
+use crate::capture::watch_source;
+use crate::report::report_of;
+use crate::status::{
+    BAD_INPUT, ENDED_OTHERWISE, NO_MEMORY, SINK_FAILED, SOURCE_FAILED, SUCCESS, TOO_LONG,
+};
+use crate::watching::Watched;
+use boot_words::{Emit, ExtractTask};
+use doc_text::report_text;
+use efi_base::{InputFault, Miss, NoMemory, Sink, Source, write_all};
+use std::alloc::{AllocError, Global};
+use tap_core::{End, Seen, Shown};
+
+/// What is answered to an input.
+pub enum Answer {
+    /// What is written where the download ends with success.
+    Success(Vec<u8>),
+    /// What is written where it ends otherwise: nothing where the image is asked for.
+    Otherwise(Vec<u8>),
+    /// The line that refuses the input.
+    Refused(Vec<u8>),
+}
+
+/// Reads the source to its end, and writes what the task asks for of the capture that it gives. The capture is read passively.
+pub fn extract<S: Source, K: Sink>(alloc: Global, task: ExtractTask, src: &mut S, out: &mut K) -> u8
+    // The download on the capture ends with success, or otherwise, and this was written.
+    ensures success { result ≡ 0 → IfSome (S.left src.old) (λ input. (text : List ℕ) × Succeeded task input text
+        × Appends (K.held out.old) (K.held out.new) text) }
+    ensures otherwise { result ≡ 1 → IfSome (S.left src.old) (λ input. (text : List ℕ) × EndedOtherwise task input text
+        × Appends (K.held out.old) (K.held out.new) text) }
+
+    // The whole input is no capture, and the line that tells so was written.
+    ensures refused { result ≡ 3 → IfSome (S.left src.old) (λ input. (line : List ℕ) × IsRefusal input line
+        × Appends (K.held out.old) (K.held out.new) line) }
+    ensures read_whole { (result ≡ 0) ⊎ (result ≡ 1) ⊎ (result ≡ 3) ⊎ (result ≡ 5) → IsAtEnd (S.left src.new) }
+
+    // The input is longer than the limit.
+    ensures too_long { result ≡ 7 → IfSome (S.left src.old) (λ input. 2147483648 < length input) }
+    ensures long { IfSome (S.left src.old) (λ input. 2147483648 < length input
+        → (result ≡ 4) ⊎ (result ≡ 6) ⊎ (result ≡ 7)) }
+
+    // When the other answers come.
+    ensures source { result ≡ 4 → Rose (S.faults src.old) (S.faults src.new) }
+    ensures sink { result ≡ 5 → Rose (K.faults out.old) (K.faults out.new) }
+    ensures source_count { S.faults src.new ≢ S.faults src.old → (result ≡ 4) ⊎ (result ≡ 6) }
+    ensures sink_count { K.faults out.new ≢ K.faults out.old → (result ≡ 5) ⊎ (result ≡ 6) }
+    ensures others { (result ≡ 0) ⊎ (result ≡ 1) ⊎ (result ≡ 3) ⊎ (result ≡ 4) ⊎ (result ≡ 5) ⊎ (result ≡ 6) ⊎ (result ≡ 7) }
+
+    // What is written: a front of the text where a write failed or memory ran out, and nothing with the others.
+    ensures front { (result ≡ 5) ⊎ (result ≡ 6) → IfSome (S.left src.old) (λ input.
+        (out.new ≡ out.old) ⊎ ((text : List ℕ) × IsAnswerText task input text × AppendsFront (K.held out.old) (K.held out.new) text)) }
+    ensures nothing { (result ≡ 4) ⊎ (result ≡ 7) → out.new ≡ out.old }
+    ensures no_image { result ≡ 1 → task.emit ≡ emit.Image → out.new ≡ out.old }
+{
+    let watched = match watch_source(alloc, task.buffer, src) {
+        Ok(watched) => watched,
+        Err(InputFault::Failed) => return SOURCE_FAILED,
+        Err(InputFault::OutOfResources) => return NO_MEMORY,
+        Err(InputFault::TooLong) => return TOO_LONG,
+    };
+    match answer_of(alloc, task, watched) {
+        Ok(Answer::Success(text)) => write_text(out, &text, SUCCESS),
+        Ok(Answer::Otherwise(text)) => write_otherwise(out, &text),
+        Ok(Answer::Refused(line)) => write_text(out, &line, BAD_INPUT),
+        Err(NoMemory) => NO_MEMORY,
+    }
+}
+
+/// Writes a text. The answer is this status where all of it was written.
+fn write_text<K: Sink>(out: &mut K, text: &[u8], status: u8) -> u8
+    ensures cases { (result ≡ 5) ⊎ (result ≡ 6) ⊎ ((result ≡ status) × Appends (K.held out.old) (K.held out.new) text.now
+        × (K.faults out.new ≡ K.faults out.old)) }
+    ensures front { AppendsFront (K.held out.old) (K.held out.new) text.now }
+    ensures sink { (result ≡ 5) → (status ≢ 5) → Rose (K.faults out.old) (K.faults out.new) }
+    ensures sink_count { K.faults out.new ≢ K.faults out.old → (result ≡ 5) ⊎ (result ≡ 6) }
+{
+    match write_all(out, text) {
+        Ok(()) => status,
+        Err(Miss::Failed) => SINK_FAILED,
+        Err(Miss::OutOfResources) => NO_MEMORY,
+    }
+}
+
+/// Writes what is written where the download ends otherwise than with success; nothing is no write.
+fn write_otherwise<K: Sink>(out: &mut K, text: &[u8]) -> u8
+    ensures cases { (result ≡ 5) ⊎ (result ≡ 6) ⊎ ((result ≡ 1) × Appends (K.held out.old) (K.held out.new) text.now
+        × (K.faults out.new ≡ K.faults out.old)) }
+    ensures front { AppendsFront (K.held out.old) (K.held out.new) text.now }
+    ensures sink { (result ≡ 5) → Rose (K.faults out.old) (K.faults out.new) }
+    ensures sink_count { K.faults out.new ≢ K.faults out.old → (result ≡ 5) ⊎ (result ≡ 6) }
+    ensures nothing { text.now ≡ [] → out.new ≡ out.old }
+{
+    if text.is_empty() {
+        return ENDED_OTHERWISE;
+    }
+    write_text(out, text, ENDED_OTHERWISE)
+}
+
+/// What is answered to an input of which this was watched.
+fn answer_of(alloc: Global, task: ExtractTask, watched: Watched) -> Result<Answer, NoMemory>
+    ensures answered { (bytes : List ℕ) → IsWatched task.buffer bytes watched → IfOk result (IsAnswered task bytes) }
+    ensures no_image { task.emit ≡ emit.Image → IfOk result HasNoReport }
+{
+    match watched {
+        Watched::Capture(seen) => answer_seen(alloc, task, seen),
+        Watched::BadAt(place) => match bad_input_line(alloc, place) {
+            Ok(line) => Ok(Answer::Refused(line)),
+            Err(_) => Err(NoMemory),
+        },
+    }
+}
+
+/// What is answered to a capture of which this was seen.
+fn answer_seen(alloc: Global, task: ExtractTask, seen: Seen) -> Result<Answer, NoMemory>
+    ensures answered { (bytes : List ℕ) → (records : List Record) → IsWhole bytes [] records → IsSeen task.buffer records seen
+        → IfOk result (IsAnswered task bytes) }
+    ensures no_image { task.emit ≡ emit.Image → IfOk result HasNoReport }
+{
+    match task.emit {
+        Emit::Image => Ok(image_answer(alloc, seen)),
+        Emit::Report => report_answer(alloc, &seen.shown),
+    }
+}
+
+/// The image, where it is asked for.
+fn image_answer(alloc: Global, seen: Seen) -> Answer
+    ensures answered { (most : ℕ) (bytes : List ℕ) (records : List Record) → IsWhole bytes [] records → IsSeen most records seen
+        → IsAnswered (record { emit = emit.Image; buffer = most }) bytes result }
+    ensures no_image { HasNoReport result }
+{
+    if is_success(seen.shown.end) {
+        return Answer::Success(seen.body.into_vec());
+    }
+    Answer::Otherwise(Vec::new(alloc))
+}
+
+/// The report, where it is asked for.
+fn report_answer(alloc: Global, shown: &Shown) -> Result<Answer, NoMemory>
+    ensures { (most : ℕ) (bytes : List ℕ) (records : List Record) (t : Telling) → IsWhole bytes [] records → Shows most records t
+        → Tells t.end t.opening (length (front t.board.kept)) (is_over t.board) t.upto shown.now
+        → IfOk result (IsAnswered (record { emit = emit.Report; buffer = most }) bytes) }
+{
+    let text = match report_text(alloc, &report_of(shown)) {
+        Ok(text) => text.into_vec(),
+        Err(e) => return Err(e),
+    };
+    if is_success(shown.end) {
+        return Ok(Answer::Success(text));
+    }
+    Ok(Answer::Otherwise(text))
+}
+
+fn is_success(end: End) -> bool
+    ensures { result ≡ is_success end }
+{
+    match end {
+        End::Success(_) => true,
+        _ => false,
+    }
+}
+
+/// The line that tells where an input is bad.
+fn bad_input_line(alloc: Global, place: u64) -> Result<Vec<u8>, AllocError>
+    ensures { IfOk result (λ line. line.items ≡ bad_input_text place) }
+{
+    let mut text = String::from_str(alloc, "bad input at ")?;
+    write!(text, "{place}\n")?;
+    Ok(text.into_bytes())
+}

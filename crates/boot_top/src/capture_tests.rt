@@ -1,7 +1,6 @@
 //! Captures for tests, made of small steps: what a station and its peer send on one connection, a frame in each record. What
 //! they show isn't here.
 use crate::frame_tests::{Place, Segment, Sums, frame_octets, segment_octets};
-use crate::hostile_steps::put_hostile;
 use std::alloc::{AllocError, Global};
 
 /// What a record of a capture holds. Places count the octets of the peer's stream.
@@ -37,22 +36,6 @@ pub enum Step {
     Reset(u32),
     /// A frame with the station's address that is too short for a header.
     Stray,
-    /// The peer sends these octets at this place.
-    At(u32, &'static str),
-    /// The same with these octets so many times.
-    Many(u32, &'static str, usize),
-    /// The peer sends a segment with these flags and octets at this place.
-    Flagged(u8, u32, &'static str),
-    /// The peer sends the stream in a segment with this octet for the header's length, and these options.
-    Headed(u8, &'static [u8]),
-    /// The peer sends the stream in a packet whose header has these octets at these places, with so many zeros behind it.
-    Packet(&'static [(usize, u8)], usize),
-    /// The peer sends a part of the segment that has the stream, in a fragment with this number; whether more come.
-    Fragment(u16, usize, usize, bool),
-    /// The same with an `x` in place of each octet, and with as many fragments, each with the next number.
-    Flood(u16, u16, usize, usize, bool),
-    /// So many milliseconds pass.
-    Wait(u32),
 }
 
 /// A capture: the peer's stream, the records, and the numbers with which the station and the peer begin.
@@ -83,13 +66,13 @@ const PEER: Place = Place {
     port: 80,
 };
 
-pub const FIN: u8 = 1;
+const FIN: u8 = 1;
 
-pub const SYN: u8 = 2;
+const SYN: u8 = 2;
 
 const RST: u8 = 4;
 
-pub const ACK: u8 = 16;
+const ACK: u8 = 16;
 
 /// How many octets of a segment each of its fragments has, and how many eights these are.
 const FRAGMENT: usize = 16;
@@ -97,18 +80,18 @@ const FRAGMENT: usize = 16;
 const FRAGMENT_EIGHTS: u16 = 2;
 
 /// The flag of fragments behind which more come.
-pub const MORE: u16 = 0x2000;
+const MORE: u16 = 0x2000;
 
 /// The time between records, in milliseconds.
 const STEP: u32 = 2;
 
 /// A capture as far as it is written, and the time of the next record.
 #[derive(Drop)]
-pub struct Writer {
-    pub alloc: Global,
+struct Writer {
+    alloc: Global,
     octets: Vec<u8>,
     form: Form,
-    pub time: u32,
+    time: u32,
 }
 
 /// The octets of a capture.
@@ -150,14 +133,6 @@ fn put_step(writer: &mut Writer, plan: &Plan, step: Step) -> Result<(), AllocErr
             let octets = vec![in writer.alloc; b'x'; part(plan.stream, from, to).len()]?;
             put_segment(writer, step, &from_peer(plan, step, &octets))
         }
-        Step::At(_, _)
-        | Step::Many(_, _, _)
-        | Step::Flagged(_, _, _)
-        | Step::Headed(_, _)
-        | Step::Packet(_, _)
-        | Step::Fragment(_, _, _, _)
-        | Step::Flood(_, _, _, _, _)
-        | Step::Wait(_) => put_hostile(writer, plan, step),
         _ => put_segment(writer, step, &from_peer(plan, step, octets_of(plan, step))),
     }
 }
@@ -178,9 +153,7 @@ fn from_station(plan: &Plan, step: Step) -> Segment<'static> {
         to: PEER,
         seq: plan.iss,
         ack: 0,
-        offset: 0x50,
         flags: SYN,
-        options: &[],
         payload: &[],
     };
     match step {
@@ -224,9 +197,7 @@ fn from_peer<'a>(plan: &Plan, step: Step, payload: &'a [u8]) -> Segment<'a> {
         to: STATION,
         seq: plan.irs,
         ack: plan.iss.wrapping_add(1),
-        offset: 0x50,
         flags: SYN | ACK,
-        options: &[],
         payload,
     };
     match step {
@@ -253,20 +224,6 @@ fn from_peer<'a>(plan: &Plan, step: Step, payload: &'a [u8]) -> Segment<'a> {
             flags: flags_of(step),
             ..accepts
         },
-    }
-}
-
-/// A segment of the peer with these flags and octets, at a place of the stream.
-pub fn at_place<'a>(plan: &Plan, flags: u8, place: u32, payload: &'a [u8]) -> Segment<'a> {
-    Segment {
-        from: PEER,
-        to: STATION,
-        seq: number_at(plan, place),
-        ack: plan.iss.wrapping_add(1),
-        offset: 0x50,
-        flags,
-        options: &[],
-        payload,
     }
 }
 
@@ -334,7 +291,7 @@ fn put_fragments(writer: &mut Writer, s: &Segment<'_>, octets: &[u8]) -> Result<
     Ok(())
 }
 
-pub fn put_record(writer: &mut Writer, frame: &[u8]) -> Result<(), AllocError> {
+fn put_record(writer: &mut Writer, frame: &[u8]) -> Result<(), AllocError> {
     let len = (frame.len() % 65_536) as u32;
     let fraction = match writer.form {
         Form::Little => writer.time % 1_000 * 1_000,

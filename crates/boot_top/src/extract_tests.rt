@@ -93,7 +93,7 @@ fn report_of(alloc: Global, case: &Case) -> Result<String, Fail> {
     Ok(text)
 }
 
-pub fn check_image<R: Abort + AllocGlobal>(rt: &R, case: &Case) -> Result<(), Fail> {
+fn check_image<R: Abort + AllocGlobal>(rt: &R, case: &Case) -> Result<(), Fail> {
     let name = case.name;
     let (status, image) = answer_of(rt.alloc(), case, Form::Little, "image")?;
     assert_eq!(rt; status, case.status, "{name}");
@@ -108,7 +108,7 @@ fn check_images<R: Abort + AllocGlobal>(rt: &R, cases: &[Case]) -> Result<(), Fa
     Ok(())
 }
 
-pub fn check_report<R: Abort + AllocGlobal>(rt: &R, case: &Case) -> Result<(), Fail> {
+fn check_report<R: Abort + AllocGlobal>(rt: &R, case: &Case) -> Result<(), Fail> {
     let name = case.name;
     let (status, report) = answer_of(rt.alloc(), case, Form::Big, "report")?;
     let wanted = report_of(rt.alloc(), case)?;

@@ -18,10 +18,7 @@ pub struct Segment<'a> {
     pub to: Place,
     pub seq: u32,
     pub ack: u32,
-    /// The octet that tells how long the header is, 0x50 where it has no options.
-    pub offset: u8,
     pub flags: u8,
-    pub options: &'a [u8],
     pub payload: &'a [u8],
 }
 
@@ -58,13 +55,12 @@ fn pseudo_header(s: &Segment<'_>, len: usize) -> [u8; 12] {
     [a, b, c, d, e, f, g, h, 0, 6, high, low]
 }
 
-/// A segment with this checksum.
+/// A segment with this checksum, and without options.
 fn tcp_octets(alloc: Global, s: &Segment<'_>, sum: u16) -> Result<Vec<u8>, AllocError> {
     let mut octets = Vec::new(alloc);
     octets.extend_from_slice(&s.from.port.to_be_bytes())?;
     octets.extend_from_slice(&s.to.port.to_be_bytes())?;
     octets.extend_from_slice(&tcp_numbers(s, sum))?;
-    octets.extend_from_slice(s.options)?;
     octets.extend_from_slice(s.payload)?;
     Ok(octets)
 }
@@ -75,7 +71,7 @@ fn tcp_numbers(s: &Segment<'_>, sum: u16) -> [u8; 16] {
     let [e, f, g, h] = s.ack.to_be_bytes();
     let [high, low] = sum.to_be_bytes();
     [
-        a, b, c, d, e, f, g, h, s.offset, s.flags, 0xFF, 0xFF, high, low, 0, 0,
+        a, b, c, d, e, f, g, h, 0x50, s.flags, 0xFF, 0xFF, high, low, 0, 0,
     ]
 }
 
@@ -97,49 +93,6 @@ pub fn frame_octets(
     frame.extend_from_slice(&header)?;
     frame.extend_from_slice(payload)?;
     Ok(frame)
-}
-
-/// The frame of a packet whose header has these octets at these places, and the checksum that is right for as many words as it
-/// tells, where none is among these octets.
-pub fn altered_frame(
-    alloc: Global,
-    s: &Segment<'_>,
-    part: u16,
-    octets: &[(usize, u8)],
-    payload: &[u8],
-) -> Result<Vec<u8>, AllocError> {
-    let mut packet = Vec::new(alloc);
-    packet.extend_from_slice(&ip_header(s, part, payload.len(), 0))?;
-    packet.extend_from_slice(payload)?;
-    alter(&mut packet, octets);
-    let [high, low] = checksum(&[], told_header(&packet)).to_be_bytes();
-    alter(&mut packet, &[(10, high), (11, low)]);
-    alter(&mut packet, octets);
-    let mut frame = Vec::new(alloc);
-    frame.extend_from_slice(&ether_header(s))?;
-    frame.extend_from_slice(&packet)?;
-    Ok(frame)
-}
-
-/// Puts octets at places, where these are there.
-fn alter(packet: &mut [u8], octets: &[(usize, u8)]) {
-    for (place, octet) in octets {
-        if let Some(slot) = packet.get_mut(*place) {
-            *slot = *octet;
-        }
-    }
-}
-
-/// As many octets as the packet tells that its header has, or all.
-fn told_header(packet: &[u8]) -> &[u8] {
-    let words = match packet.first() {
-        Some(first) => first % 16,
-        None => 0,
-    };
-    match packet.get(..usize::from(words) * 4) {
-        Some(header) => header,
-        None => packet,
-    }
 }
 
 fn ip_header(s: &Segment<'_>, part: u16, len: usize, sum: u16) -> [u8; 20] {

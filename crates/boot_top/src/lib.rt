@@ -15,16 +15,6 @@ mod extract_segments;
 mod extract_tests;
 #[cfg(test)]
 mod frame_tests;
-#[cfg(test)]
-mod hostile_heads;
-#[cfg(test)]
-mod hostile_packets;
-#[cfg(test)]
-mod hostile_segments;
-#[cfg(test)]
-mod hostile_steps;
-#[cfg(test)]
-mod hostile_tests;
 // the report of what a capture shows
 mod report;
 // the exit statuses

@@ -7,7 +7,7 @@ use Rattle.tap_core.specs.Openings.{Opening}
 use Rattle.tap_core.specs.Peers.{IsHonest}
 use Rattle.tap_core.specs.Shows.{HasConnection}
 
--- the octets are a capture that has a connection, with this heard on it, and each segment that is heard is a part of this
+-- the octets are a capture that has a connection, with this heard on it, and each cut that is heard is a part of this
 -- one stream, however it was lost, repeated or reordered
 pub record HasHonestPeer (bytes : List ℕ) (irs : ℕ) (heard : List (Option Segment)) (stream : List ℕ) : Type 0 where
   pub records : List Record

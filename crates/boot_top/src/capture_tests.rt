@@ -95,7 +95,7 @@ struct Writer {
 }
 
 /// The octets of a capture.
-pub fn capture_of(alloc: Global, plan: &Plan, form: Form) -> Result<Vec<u8>, AllocError> {
+pub(crate) fn capture_of(alloc: Global, plan: &Plan, form: Form) -> Result<Vec<u8>, AllocError> {
     let mut octets = Vec::new(alloc);
     octets.extend_from_slice(&header_of(form))?;
     let mut writer = Writer {

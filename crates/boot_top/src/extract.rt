@@ -2,6 +2,7 @@
 ghost use Rattle.std.specs.Prelude.{◌≡◌, ◌≢◌, ◌⊎◌, ◌<◌, List, [], ℕ, length, string_bytes, IfOk, IfSome};
 ghost use Rattle.std.specs.Io.KnownBytes.{Appends, IsAtEnd};
 ghost use Rattle.efi_base.specs.Causes.{AppendsFront, Rose};
+ghost use Rattle.efi_base.specs.Intake.{TakesAtMost};
 ghost use Rattle.efi_base.specs.declared.plain.Record.{Record};
 ghost use Rattle.tcp_recv.specs.Stream.{front, is_over};
 ghost use Rattle.tap_core.specs.Shown.{Tells};
@@ -46,6 +47,8 @@ pub fn extract<S: Source, K: Sink>(alloc: Global, task: ExtractTask, src: &mut S
     ensures refused { result ≡ 3 → IfSome (S.left src.old) (λ input. (line : List ℕ) × IsRefusal input line
         × Appends (K.held out.old) (K.held out.new) line) }
     ensures read_whole { (result ≡ 0) ⊎ (result ≡ 1) ⊎ (result ≡ 3) ⊎ (result ≡ 5) → IsAtEnd (S.left src.new) }
+    ensures read_first { out.new ≢ out.old → IsAtEnd (S.left src.new) }
+    ensures taken { TakesAtMost (S.left src.old) (S.left src.new) 2147483649 }
 
     // The input is longer than the limit.
     ensures too_long { result ≡ 7 → IfSome (S.left src.old) (λ input. 2147483648 < length input) }

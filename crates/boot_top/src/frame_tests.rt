@@ -33,7 +33,11 @@ pub enum Sums {
 }
 
 /// A segment with its checksum, a wrong one or none.
-pub fn segment_octets(alloc: Global, sums: Sums, s: &Segment<'_>) -> Result<Vec<u8>, AllocError> {
+pub(crate) fn segment_octets(
+    alloc: Global,
+    sums: Sums,
+    s: &Segment<'_>,
+) -> Result<Vec<u8>, AllocError> {
     let blank = tcp_octets(alloc, s, 0)?;
     if let Sums::Blank = sums {
         return Ok(blank);
@@ -76,7 +80,7 @@ fn tcp_numbers(s: &Segment<'_>, sum: u16) -> [u8; 16] {
 }
 
 /// The frame of a packet between the ends of a segment. `part` is the word with the flags and the place.
-pub fn frame_octets(
+pub(crate) fn frame_octets(
     alloc: Global,
     sums: Sums,
     s: &Segment<'_>,

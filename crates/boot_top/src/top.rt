@@ -2,6 +2,7 @@
 ghost use Rattle.std.specs.Prelude.{◌≡◌, ◌≢◌, ◌⊎◌, ◌<◌, List, Option, ℕ, map, string_bytes, length, true, false, None, IfSome};
 ghost use Rattle.std.specs.Io.KnownBytes.{Appends, IsAtEnd};
 ghost use Rattle.efi_base.specs.Causes.{AppendsFront, Rose};
+ghost use Rattle.efi_base.specs.Intake.{TakesAtMost};
 ghost use Rattle.boot_words.specs.Grammar.{grammar_task};
 ghost use Rattle.boot_words.specs.declared.task.Task.{Task};
 ghost use Rattle.boot_words.specs.declared.task.ExtractTask.{ExtractTask};
@@ -63,8 +64,10 @@ pub fn run<S: Source, K: Sink, P: Sink>(
     ensures built { (task : Task) → AskFor (map string_bytes words.now.items) task → IsBuilt task
         → (result ≡ 0) ⊎ (result ≡ 1) ⊎ (result ≡ 3) ⊎ (result ≡ 4) ⊎ (result ≡ 5) ⊎ (result ≡ 6) ⊎ (result ≡ 7) }
     ensures read_whole { (result ≡ 0) ⊎ (result ≡ 1) ⊎ (result ≡ 3) ⊎ (result ≡ 5) → IsAtEnd (S.left src.new) }
+    ensures read_first { out.new ≢ out.old → IsAtEnd (S.left src.new) }
+    ensures taken { TakesAtMost (S.left src.old) (S.left src.new) 2147483649 }
 
-    // The headline: where every segment of the connection comes from a peer that speaks one stream, however lost, repeated or
+    // The headline: where every cut of the connection comes from a peer that speaks one stream, however lost, repeated or
     // reordered, the download succeeds exactly where the accepted stream comes to hold a whole response of status 200 that fits
     // the buffer, and the image is the body of the peer's whole stream.
     ensures headline { (t : ExtractTask) → AskToExtract (map string_bytes words.now.items) t

@@ -1,6 +1,7 @@
 -- What the command answered decides what the words and the input are answered.
 use Rattle.std.proofs.Common.{rules, ◌≡◌, ◌⊎◌, ℕ, Bool, true, false, List, Option, IfSome, Global, map, string_bytes, subst}
 use Rattle.std.specs.Io.KnownBytes.{Appends}
+use Rattle.efi_base.specs.Causes.{AppendsFront}
 use Rattle.wire_http.specs.Response.{IsWhole}
 use Rattle.wire_l4.specs.Segment.{Segment}
 use Rattle.boot_words.specs.declared.task.Emit.TheVariants as emit
@@ -11,7 +12,7 @@ use Rattle.boot_top.specs.Commands.{AskToExtract, IsNoVerdict}
 use Rattle.boot_top.specs.Extract.{Extracts, is_success}
 use Rattle.boot_top.specs.Headline.{HasHonestPeer}
 use Rattle.boot_top.proofs.Exact.{succeeds-of, ends-of, no-capture-of, headline-of}
-use Rattle.boot_top.proofs.Written.{task-one}
+use Rattle.boot_top.proofs.Written.{task-one, front-asked, none-taken}
 use Rattle.boot_top.proofs.top.run.Goals as goal
 
 pub returns-in-Ok-Extract-clause-succeeds : goal.returns-in-Ok-Extract-clause-succeeds
@@ -51,3 +52,13 @@ returns-in-Ok-Extract-clause-headline g c t ask =
     × Appends (g.K.Sink.held c.args.out.now) (g.K.Sink.held c.extract.new.out) body))) same
     (headline-of (g.S.Source.left c.args.src.now) c.in-Ok-Extract.task c.extract.result (Appends (g.K.Sink.held c.args.out.now) (g.K.Sink.held c.extract.new.out))
     c.extract.ensures.success c.extract.ensures.otherwise)
+
+pub returns-in-Ok-Extract-clause-front : goal.returns-in-Ok-Extract-clause-front
+returns-in-Ok-Extract-clause-front g c told =
+    let words = map (string_bytes {Z = Global}) c.args.words.now.items in
+    let asked : AskToExtract words c.in-Ok-Extract.task = search rules in
+    front-asked (g.S.Source.left c.args.src.now) _ words c.in-Ok-Extract.task (AppendsFront (g.K.Sink.held c.args.out.now) (g.K.Sink.held c.extract.new.out)) asked
+    (c.extract.ensures.front told)
+
+pub returns-in-Ok-clause-taken : goal.returns-in-Ok-clause-taken
+returns-in-Ok-clause-taken g c = none-taken _ 2147483649

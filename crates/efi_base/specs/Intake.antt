@@ -5,6 +5,10 @@ use Rattle.efi_base.specs.Causes.{Rose}
 use Rattle.efi_base.specs.declared.intake.InputFault.{InputFault}
 use Rattle.efi_base.specs.declared.intake.InputFault.TheVariants as fault
 
+-- the octets of the longest input: 2 GiB
+abbrev pub input_limit : ℕ
+input_limit = 2147483648
+
 -- at most so many octets were taken from what was left
 abbrev pub TakesAtMost : Option (List ℕ) → Option (List ℕ) → ℕ → Type 0
 TakesAtMost old new most = (front : List ℕ) × Consumes old new front × (length front ≤ most)

@@ -1,6 +1,7 @@
 pub mod Carries
 pub mod Causes
 pub mod Checksum
+pub mod Edge
 pub mod Intake
 pub mod Memory
 pub mod Reads

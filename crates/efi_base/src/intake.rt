@@ -2,7 +2,7 @@
 ghost use Rattle.std.specs.Prelude.{◌≡◌, ◌≢◌, ◌+◌, ◌<◌, ◌≤◌, length, IfOk, IfSome, IsErrOf, OnOk, vec_len};
 ghost use Rattle.std.specs.Io.KnownBytes.{IsAtEnd};
 ghost use Rattle.efi_base.specs.declared.intake.InputFault.TheVariants as fault;
-ghost use Rattle.efi_base.specs.Intake.{HasInputCause, PutsPiece, TakesAtMost};
+ghost use Rattle.efi_base.specs.Intake.{HasInputCause, PutsPiece, TakesAtMost, input_limit};
 
 use crate::fault::Failed;
 use crate::outside::Source;
@@ -74,13 +74,13 @@ pub fn read_all<S: Source>(alloc: Global, src: &mut S) -> Result<Vec<u8>, InputF
     // All of the input, which isn't longer than the limit.
     ensures whole { IfOk result (λ input. IfSome (S.left src.old) (λ octets. input.items ≡ octets)) }
     ensures end { OnOk result (IsAtEnd (S.left src.new)) }
-    ensures bound { IfOk result (λ input. length input.items ≤ INPUT_LIMIT) }
+    ensures bound { IfOk result (λ input. length input.items ≤ input_limit) }
 
     // What it took, whatever it answers.
-    ensures taken { TakesAtMost (S.left src.old) (S.left src.new) (INPUT_LIMIT + 1) }
+    ensures taken { TakesAtMost (S.left src.old) (S.left src.new) (input_limit + 1) }
 
     // When the faults come.
-    ensures too_long { IsErrOf result InputFault.TooLong → IfSome (S.left src.old) (λ octets. INPUT_LIMIT < length octets) }
+    ensures too_long { IsErrOf result InputFault.TooLong → IfSome (S.left src.old) (λ octets. input_limit < length octets) }
     ensures cause { HasInputCause (S.faults src.old) (S.faults src.new) result }
     ensures count { S.faults src.new ≢ S.faults src.old → IsErrOf result InputFault.Failed }
 {

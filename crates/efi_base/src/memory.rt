@@ -15,6 +15,7 @@ use std::marker::Model;
 fn copy_front(octets: &[u8], room: &mut [u8]) -> usize
     ensures count { result ≡ min (length octets.now) (length room.old) }
     ensures copied { take result room.new ≡ take result octets.now }
+    ensures behind { drop result room.new ≡ drop result room.old }
 {
     let count = octets.len().min(room.len());
     room[..count].copy_from_slice(&octets[..count]);
@@ -88,6 +89,10 @@ impl Source for MemSource {
         ensures failed { OnErr result (self.new ≡ after_fault self.old) }
         ensures given { IfOk result (λ n. n ≡ min (length self.old.octets) (length room.old)) }
         ensures rest { IfOk result (λ n. self.new ≡ after_call self.old (drop n self.old.octets)) }
+
+        // What is behind the octets that it gives stays.
+        ensures behind { IfOk result (λ n. drop n room.new ≡ drop n room.old) }
+        ensures room_kept { OnErr result (room.new ≡ room.old) }
     {
         if self.plan.fails_next() {
             self.plan.count_fault();
@@ -145,6 +150,7 @@ impl Source for SureSource {
         // It gives as many octets as there are and fit.
         ensures given { result ≡ Ok (min (length self.old) (length room.old)) }
         ensures rest { IfOk result (λ n. self.new ≡ drop n self.old) }
+        ensures behind { IfOk result (λ n. drop n room.new ≡ drop n room.old) }
     {
         let count = copy_front(rest_of(&self.octets, self.given), room);
         self.given += count;

@@ -16,6 +16,10 @@ pub record Segment : Type 0 where
   pub shift : Option ℕ
   pub payload : List ℕ
 
+-- the flag at this place of the octet of flags, counted from its lowest bit: FIN, SYN, RST, PSH, ACK
+abbrev pub flag_at : ℕ → ℕ
+flag_at place = 2 ^ place
+
 -- the length of the header in octets: its field counts words of four
 abbrev pub data_offset : List ℕ → ℕ
 data_offset bytes = slice_index bytes 12 / 16 * 4

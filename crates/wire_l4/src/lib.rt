@@ -13,7 +13,9 @@ mod pseudo;
 mod segment;
 
 pub use datagram::{Udp, read_udp, write_udp};
-pub use laws::{written_datagram_is_read_again, written_segment_is_read_again};
+pub use laws::{
+    flags_are_at_their_places, written_datagram_is_read_again, written_segment_is_read_again,
+};
 pub use segment::{ACK, FIN, PSH, RST, SYN, Tcp, read_tcp, read_tcp_unverified, write_tcp};
 
 #[cfg(test)]

@@ -1,9 +1,12 @@
 -- What is kept of a stream stands for it after each piece.
-use Rattle.std.proofs.Common.{◌≡◌, ℕ, suc, ◌+◌, ◌-◌, ◌<◌, ◌≤◌, min, Bool, List, [], ◌∷◌, ◌++◌, length, take, drop, refl, sym, ap, ◌∙◌, subst, arith, length-append, length-take, length-drop, take-append-drop, inl, inr, None, zero-add}
+use Rattle.std.proofs.Common.{◌≡◌, ℕ, suc, ◌+◌, ◌-◌, ◌<◌, ◌≤◌, min, List, [], ◌∷◌, ◌++◌, length, take, drop, refl, sym, ap, ◌∙◌, subst, arith, length-append, length-take, length-drop, take-append-drop, inl, inr, Option, None, Some, zero-add, Bool, true, false, ◌==◌, cond}
+use Rattle.std.specs.Prelude.{◌&&◌, is_none}
 use Rattle.std.proofs.lemmas.Bool.{cases_lt}
+use Rattle.std.proofs.lemmas.Bool.Decides.{nat_tests}
 use Rattle.std.proofs.lemmas.List.{take_all, take_rest, drop_all}
 use Rattle.std.specs.List.{flat_map}
 use Rattle.httparse.specs.Grammar.{ResponseHead, print_response, status_code}
+use Rattle.efi_base.specs.declared.response.CodingField.{CodingField}
 use Rattle.wire_http.specs.declared.head.Framing.{Framing}
 use Rattle.wire_http.specs.declared.head.Framing.TheVariants as framing
 use Rattle.wire_http.specs.declared.head.HeadInfo.{HeadInfo}
@@ -22,7 +25,7 @@ use Rattle.load_core.specs.declared.load.Stage.{Stage}
 use Rattle.load_core.specs.declared.load.Stage.TheVariants.{Heads, BadHead, Behind}
 use Rattle.load_core.specs.declared.reading.Reading.{Reading}
 use Rattle.load_core.specs.Final.{IsFinal}
-use Rattle.load_core.specs.Met.{HasLoadSoFar}
+use Rattle.load_core.specs.Met.{HasLoadSoFar, HasNoLoad}
 use Rattle.load_core.specs.Taken.{room_of, Reads, ReadsOn, AtHeads, IsBehind, StandsAt}
 use Rattle.load_core.proofs.HeadRuns.{heads-append, bad_heads-append}
 
@@ -176,6 +179,39 @@ placed-whole stage kept placed most stream fin body s w fits =
     let so_far = subst (HoldsSoFar f w.rest) (sym (whole_is f fin w.rest body w.holds)) (so_far_is f w.rest) in
     placed-so_far stage kept placed most stream body s (w.interim, w.final, w.rest, w.heads, (sym w.status_is, w.uncoded, so_far))
     ∙ take_all most body fits
+
+ok_is : (status : ℕ) → (status == 200) ≡ true → status ≡ 200
+ok_is status h = grind (arith, nat_tests)
+
+-- there is no room for what isn't a load's
+room_none : (status : ℕ) (coding : Option CodingField) (most : ℕ) → (status ≡ 200 → coding ≡ None → ⊥)
+    → cond (status == 200 && is_none coding) most 0 ≡ 0
+room_none status None most other = by_test (status == 200) refl
+  where
+    by_test : (b : Bool) → (status == 200) ≡ b → cond (b && true) most 0 ≡ 0
+    by_test true e = absurd (other (ok_is status e) refl)
+    by_test false e = refl
+room_none status (Some field) most other = by_test (status == 200)
+  where
+    by_test : (b : Bool) → cond (b && false) most 0 ≡ 0
+    by_test true = refl
+    by_test false = refl
+
+behind-load : (r : Reading) (placed : List ℕ) (most : ℕ) (stream : List ℕ) (h : IsBehind r placed most stream)
+    → r.info.status ≡ 200 → r.info.coding ≡ None → HasLoadSoFar stream h.octets
+behind-load r placed most stream h status coding =
+    let ok : status_code h.final ≡ 200 = sym h.says.status_is ∙ status in
+    let so_far = subst (λ (f : Framing). HoldsSoFar f h.rest h.octets) (same_framing r h.final h.says ok) h.reads.so_far in
+    (h.interim, h.final, h.rest, h.heads, (ok, sym h.says.coding_is ∙ coding, so_far))
+
+pub placed-none : (stage : Stage) (kept placed : List ℕ) (most : ℕ) (stream : List ℕ) → StandsAt stage kept placed most stream
+    → HasNoLoad stream → placed ≡ []
+placed-none Heads kept placed most stream s none = s.placed_is
+placed-none BadHead kept placed most stream s none = s.1
+placed-none (Behind r) kept placed most stream s none =
+    let empty : room_of r.info most ≡ 0 =
+    room_none r.info.status r.info.coding most (λ status coding. none s.octets (behind-load r placed most stream s status coding)) in
+    s.placed_is ∙ ap (λ (n : ℕ). take n s.octets) empty
 
 -- ---- by the stage
 

@@ -61,3 +61,7 @@ abbrev pub HasLoadSoFar : List ℕ → List ℕ → Type 0
 HasLoadSoFar stream octets =
     HasFinal stream (λ head rest. (status_code head ≡ 200) × (coding_of (fields_of head) ≡ None)
     × HoldsSoFar (framing_of 200 (fields_of head)) rest octets)
+
+-- the stream has no body of a load: its final head isn't whole, or has another status or a coding
+abbrev pub HasNoLoad : List ℕ → Type 0
+HasNoLoad stream = (octets : List ℕ) → ¬ (HasLoadSoFar stream octets)

@@ -1,7 +1,7 @@
 //! A response that comes in pieces: what a load finds in it, and its body, as far as that fits a buffer.
 ghost use Rattle.std.specs.Prelude.{◌≡◌, ◌+◌, ◌^◌, ◌≤◌, ◌++◌, ℕ, Bool, List, [], length, take, OnOk, IfOk};
 ghost use Rattle.wire_http.specs.Response.{IsWhole};
-ghost use Rattle.load_core.specs.Met.{IsFirstMet, HasLoadSoFar};
+ghost use Rattle.load_core.specs.Met.{IsFirstMet, HasLoadSoFar, HasNoLoad};
 ghost use Rattle.load_core.specs.Taken.{AtHeads, IsBehind, StandsAt, HasTaken};
 
 use crate::heads::{Found, find_final};
@@ -123,12 +123,14 @@ impl Load {
         }
     }
 
-    /// The octets of the body that came, as far as they fit the buffer: with `Met::Success`, the body.
+    /// The octets of the body that came, as far as they fit the buffer: with `Met::Success`, the body. None of another
+    /// status's body and none of a coded one.
     pub fn body(&self) -> &[u8]
         ensures whole { (most : ℕ) → (stream : List ℕ) → HasTaken self.now most stream
             → (fin : Bool) → (body : List ℕ) → IsWhole stream fin 200 body → length body ≤ most → result.now ≡ body }
         ensures so_far { (most : ℕ) → (stream : List ℕ) → HasTaken self.now most stream → (octets : List ℕ)
             → HasLoadSoFar stream octets → result.now ≡ take most octets }
+        ensures none { (most : ℕ) → (stream : List ℕ) → HasTaken self.now most stream → HasNoLoad stream → result.now ≡ [] }
     {
         self.placed.as_slice()
     }
@@ -139,6 +141,7 @@ impl Load {
             → (fin : Bool) → (body : List ℕ) → IsWhole stream fin 200 body → length body ≤ most → result ≡ body }
         ensures so_far { (most : ℕ) → (stream : List ℕ) → HasTaken self most stream → (octets : List ℕ)
             → HasLoadSoFar stream octets → result ≡ take most octets }
+        ensures none { (most : ℕ) → (stream : List ℕ) → HasTaken self most stream → HasNoLoad stream → result ≡ [] }
     {
         let Load { placed, .. } = self;
         Bytes::from_vec(placed)

@@ -1,7 +1,7 @@
 -- The octets that were placed.
 use Rattle.std.proofs.Common.{◌∙◌}
 use Rattle.load_core.specs.Taken.{HasTaken}
-use Rattle.load_core.proofs.Standing.{placed-whole, placed-so_far}
+use Rattle.load_core.proofs.Standing.{placed-whole, placed-so_far, placed-none}
 use Rattle.load_core.proofs.load.Load.body.Goals as goal
 
 pub returns-clause-whole : goal.returns-clause-whole
@@ -11,3 +11,7 @@ returns-clause-whole c most stream h fin body whole fits = c.as_slice.ensures.va
 pub returns-clause-so_far : goal.returns-clause-so_far
 unfolding HasTaken
 returns-clause-so_far c most stream h octets so_far = c.as_slice.ensures.value ∙ placed-so_far _ _ _ most stream octets h.1 so_far
+
+pub returns-clause-none : goal.returns-clause-none
+unfolding HasTaken
+returns-clause-none c most stream h none = c.as_slice.ensures.value ∙ placed-none _ _ _ most stream h.1 none

@@ -1,7 +1,7 @@
 -- The octets that were placed.
 use Rattle.std.proofs.Common.{◌∙◌}
 use Rattle.load_core.specs.Taken.{HasTaken}
-use Rattle.load_core.proofs.Standing.{placed-whole, placed-so_far}
+use Rattle.load_core.proofs.Standing.{placed-whole, placed-so_far, placed-none}
 use Rattle.load_core.proofs.load.Load.into_body.Goals as goal
 
 pub returns-clause-whole : goal.returns-clause-whole
@@ -11,3 +11,7 @@ returns-clause-whole c most stream h fin body whole fits = c.from_vec.ensures �
 pub returns-clause-so_far : goal.returns-clause-so_far
 unfolding HasTaken
 returns-clause-so_far c most stream h octets so_far = c.from_vec.ensures ∙ placed-so_far _ _ _ most stream octets h.1 so_far
+
+pub returns-clause-none : goal.returns-clause-none
+unfolding HasTaken
+returns-clause-none c most stream h none = c.from_vec.ensures ∙ placed-none _ _ _ most stream h.1 none

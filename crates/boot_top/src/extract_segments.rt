@@ -1,318 +1,162 @@
-//! Cases of connections: how they begin and end, and segments in any order, with the response of a stated length.
-use crate::capture_tests::Step::{
-    Accept, AcceptAt, AcceptWith, Ask, AskAnother, AskInFragments, Cut, Damaged, FromElsewhere,
-    InFragments, Last, Other, Reset, Stray,
-};
-use crate::extract_tests::{CHUNKED, CLOSE, Case, ENDED, PLAIN};
+//! Rows of connections: how they begin and end, and segments in any order, with the response of a stated length.
+use crate::extract_tests::check_rows;
+use std::test::Fail;
 
 /// How the stream or the capture ends.
-pub const ENDS: [Case; 12] = [
-    Case {
-        name: "the end before the last octet",
-        steps: &[Ask, Accept(0), Last(0, 48)],
-        accepted: "48 fin",
-        outcome: "truncated 48",
-        counts: "4 sent 1 heard 2",
-        ..ENDED
-    },
-    Case {
-        name: "the end in the head",
-        steps: &[Ask, Accept(0), Last(0, 20)],
-        accepted: "20 fin",
-        outcome: "truncated 20",
-        counts: "4 sent 1 heard 2",
-        ..ENDED
-    },
-    Case {
-        name: "the end in the trailer",
-        stream: CHUNKED,
-        steps: &[Ask, Accept(0), Cut(0, 80), Last(80, 80)],
-        accepted: "80 fin",
-        outcome: "truncated 80",
-        counts: "6 sent 1 heard 3",
-        ..ENDED
-    },
-    Case {
-        name: "the end ahead of a gap",
-        steps: &[Ask, Accept(0), Cut(0, 20), Last(40, 49), Cut(20, 40)],
-        accepted: "49 fin",
-        counts: "8 sent 1 heard 4",
-        ..PLAIN
-    },
-    Case {
-        name: "a reset at the next place",
-        steps: &[Ask, Accept(0), Cut(0, 30), Reset(30), Cut(30, 49)],
-        accepted: "30 open",
-        outcome: "reset",
-        counts: "6 sent 1 heard 3",
-        ..ENDED
-    },
-    Case {
-        name: "a reset before all octets",
-        steps: &[Ask, Accept(0), Reset(0)],
-        accepted: "0 open",
-        outcome: "reset",
-        counts: "4 sent 1 heard 2",
-        ..ENDED
-    },
-    Case {
-        name: "a reset of a stream until its end",
-        stream: CLOSE,
-        steps: &[Ask, Accept(0), Cut(0, 29), Reset(29)],
-        accepted: "29 open",
-        outcome: "reset",
-        counts: "6 sent 1 heard 3",
-        ..ENDED
-    },
-    Case {
-        name: "a reset one place ahead",
-        steps: &[Ask, Accept(0), Cut(0, 30), Reset(31), Cut(30, 49)],
-        counts: "8 sent 1 heard 4",
-        ..PLAIN
-    },
-    Case {
-        name: "a reset one place behind",
-        steps: &[Ask, Accept(0), Cut(0, 30), Reset(29)],
-        accepted: "30 open",
-        outcome: "out-of-time",
-        counts: "6 sent 1 heard 3",
-        ..ENDED
-    },
-    Case {
-        name: "all but the last octet",
-        steps: &[Ask, Accept(0), Cut(0, 48)],
-        accepted: "48 open",
-        outcome: "out-of-time",
-        counts: "4 sent 1 heard 2",
-        ..ENDED
-    },
-    Case {
-        name: "a stream without its end",
-        stream: CLOSE,
-        steps: &[Ask, Accept(0), Cut(0, 29)],
-        accepted: "29 open",
-        outcome: "out-of-time",
-        counts: "4 sent 1 heard 2",
-        ..ENDED
-    },
-    Case {
-        name: "a gap",
-        steps: &[Ask, Accept(0), Cut(0, 20), Cut(21, 49)],
-        accepted: "20 open",
-        outcome: "out-of-time",
-        counts: "6 sent 1 heard 3",
-        ..ENDED
-    },
-];
+const ENDS: &str = r"
+# the end before the last octet
+send ask | accept 0 | last 0 48
+gives 1 | | 48 fin | truncated 48 | 4 sent 1 heard 2
+# the end in the head
+send ask | accept 0 | last 0 20
+gives 1 | | 20 fin | truncated 20 | 4 sent 1 heard 2
+# the end in the trailer
+stream HTTP/1.1 200 OK\r\nTransfer-Encoding: chunked\r\n\r\n4\r\n0123\r\n6;x=y\r\n456789\r\n0\r\nT: 1\r\n\r\n
+send ask | accept 0 | cut 0 80 | last 80 80
+gives 1 | | 80 fin | truncated 80 | 6 sent 1 heard 3
+# the end ahead of a gap
+send ask | accept 0 | cut 0 20 | last 40 49 | cut 20 40
+gives 0 | 0123456789 | 49 fin | success 10 | 8 sent 1 heard 4
+# a reset at the next place
+send ask | accept 0 | cut 0 30 | reset 30 | cut 30 49
+gives 1 | | 30 open | reset | 6 sent 1 heard 3
+# a reset before all octets
+send ask | accept 0 | reset 0
+gives 1 | | 0 open | reset | 4 sent 1 heard 2
+# a reset of a stream until its end
+stream HTTP/1.1 200 OK\r\n\r\n0123456789
+send ask | accept 0 | cut 0 29 | reset 29
+gives 1 | | 29 open | reset | 6 sent 1 heard 3
+# a reset one place ahead
+send ask | accept 0 | cut 0 30 | reset 31 | cut 30 49
+gives 0 | 0123456789 | 49 open | success 10 | 8 sent 1 heard 4
+# a reset one place behind
+send ask | accept 0 | cut 0 30 | reset 29
+gives 1 | | 30 open | out-of-time | 6 sent 1 heard 3
+# all but the last octet
+send ask | accept 0 | cut 0 48
+gives 1 | | 48 open | out-of-time | 4 sent 1 heard 2
+# a stream without its end
+stream HTTP/1.1 200 OK\r\n\r\n0123456789
+send ask | accept 0 | cut 0 29
+gives 1 | | 29 open | out-of-time | 4 sent 1 heard 2
+# a gap
+send ask | accept 0 | cut 0 20 | cut 21 49
+gives 1 | | 20 open | out-of-time | 6 sent 1 heard 3
+";
 
 /// How the connection begins.
-pub const CONNECTIONS: [Case; 13] = [
-    Case {
-        name: "a header alone",
-        steps: &[],
-        peer: "-",
-        accepted: "0 open",
-        outcome: "no-connection",
-        counts: "0 sent 0 heard 0",
-        ..ENDED
-    },
-    Case {
-        name: "no request for a connection",
-        steps: &[Accept(0), Cut(0, 49)],
-        peer: "-",
-        accepted: "0 open",
-        outcome: "no-connection",
-        counts: "2 sent 0 heard 2",
-        ..ENDED
-    },
-    Case {
-        name: "no answer",
-        steps: &[Ask],
-        accepted: "0 open",
-        outcome: "no-connection",
-        counts: "0 sent 1 heard 0",
-        ..ENDED
-    },
-    Case {
-        name: "a request that is refused",
-        steps: &[Ask, Reset(0)],
-        accepted: "0 open",
-        outcome: "no-connection",
-        counts: "2 sent 1 heard 1",
-        ..ENDED
-    },
-    Case {
-        name: "an answer to something else",
-        steps: &[Ask, Accept(1), Cut(0, 49)],
-        accepted: "0 open",
-        outcome: "no-connection",
-        counts: "4 sent 1 heard 2",
-        ..ENDED
-    },
-    Case {
-        name: "an answer before the request",
-        steps: &[Accept(0), Ask, Cut(0, 49)],
-        accepted: "0 open",
-        outcome: "no-connection",
-        counts: "4 sent 1 heard 2",
-        ..ENDED
-    },
-    Case {
-        name: "a right answer behind another",
-        steps: &[Ask, Accept(1), Accept(0), Cut(0, 49)],
-        counts: "6 sent 1 heard 3",
-        ..PLAIN
-    },
-    Case {
-        name: "two answers, of which the first counts",
-        steps: &[Ask, Accept(0), AcceptAt(9), Cut(0, 49)],
-        counts: "6 sent 1 heard 3",
-        ..PLAIN
-    },
-    Case {
-        name: "octets in the answer",
-        steps: &[Ask, AcceptWith(0, 20), Cut(20, 49)],
-        accepted: "0 open",
-        outcome: "out-of-time",
-        counts: "4 sent 1 heard 2",
-        ..ENDED
-    },
-    Case {
-        name: "octets before the answer",
-        steps: &[Ask, Cut(0, 20), Accept(0), Cut(20, 49)],
-        accepted: "0 open",
-        outcome: "out-of-time",
-        counts: "6 sent 1 heard 3",
-        ..ENDED
-    },
-    Case {
-        name: "two requests, of which the first counts",
-        steps: &[Ask, AskAnother, Accept(0), Cut(0, 49)],
-        counts: "6 sent 2 heard 2",
-        ..PLAIN
-    },
-    Case {
-        name: "two requests, and an answer to the number of the second",
-        steps: &[Ask, AskAnother, Accept(1_000), Cut(0, 49)],
-        accepted: "0 open",
-        outcome: "no-connection",
-        counts: "6 sent 2 heard 2",
-        ..ENDED
-    },
-    Case {
-        name: "a request in fragments",
-        steps: &[AskInFragments, Accept(0), Cut(0, 49)],
-        counts: "6 sent 2 heard 2",
-        ..PLAIN
-    },
-];
+const CONNECTIONS: &str = r"
+# a header alone
+to -
+gives 1 | | 0 open | no-connection | 0 sent 0 heard 0
+# no request for a connection
+to -
+send accept 0 | cut 0 49
+gives 1 | | 0 open | no-connection | 2 sent 0 heard 2
+# no answer
+send ask
+gives 1 | | 0 open | no-connection | 0 sent 1 heard 0
+# a request that is refused
+send ask | reset 0
+gives 1 | | 0 open | no-connection | 2 sent 1 heard 1
+# an answer to something else
+send ask | accept 1 | cut 0 49
+gives 1 | | 0 open | no-connection | 4 sent 1 heard 2
+# an answer before the request
+send accept 0 | ask | cut 0 49
+gives 1 | | 0 open | no-connection | 4 sent 1 heard 2
+# a right answer behind another
+send ask | accept 1 | accept 0 | cut 0 49
+gives 0 | 0123456789 | 49 open | success 10 | 6 sent 1 heard 3
+# two answers, of which the first counts
+send ask | accept 0 | accept-at 9 | cut 0 49
+gives 0 | 0123456789 | 49 open | success 10 | 6 sent 1 heard 3
+# octets in the answer
+send ask | accept-with 0 20 | cut 20 49
+gives 1 | | 0 open | out-of-time | 4 sent 1 heard 2
+# octets before the answer
+send ask | cut 0 20 | accept 0 | cut 20 49
+gives 1 | | 0 open | out-of-time | 6 sent 1 heard 3
+# two requests, of which the first counts
+send ask | ask-another | accept 0 | cut 0 49
+gives 0 | 0123456789 | 49 open | success 10 | 6 sent 2 heard 2
+# two requests, and an answer to the number of the second
+send ask | ask-another | accept 1000 | cut 0 49
+gives 1 | | 0 open | no-connection | 6 sent 2 heard 2
+# a request in fragments
+send ask-in-fragments | accept 0 | cut 0 49
+gives 0 | 0123456789 | 49 open | success 10 | 6 sent 2 heard 2
+";
 
 /// How the segments come.
-pub const SEGMENTS: [Case; 15] = [
-    // segments of all sorts
-    Case {
-        name: "a segment in fragments",
-        steps: &[Ask, Accept(0), InFragments(0, 49)],
-        counts: "12 sent 1 heard 6",
-        ..PLAIN
-    },
-    Case {
-        name: "late",
-        steps: &[Ask, Accept(0), Cut(40, 49), Cut(20, 40), Cut(0, 20)],
-        counts: "8 sent 1 heard 4",
-        ..PLAIN
-    },
-    Case {
-        name: "repeated",
-        steps: &[Ask, Accept(0), Cut(0, 20), Cut(0, 20), Cut(10, 49)],
-        counts: "8 sent 1 heard 4",
-        ..PLAIN
-    },
-    Case {
-        name: "other octets over those that came",
-        steps: &[Ask, Accept(0), Cut(0, 45), Other(40, 49)],
-        image: "012345xxxx",
-        counts: "6 sent 1 heard 3",
-        ..PLAIN
-    },
-    Case {
-        name: "other octets that came first",
-        steps: &[Ask, Accept(0), Other(45, 49), Cut(0, 49)],
-        image: "012345xxxx",
-        counts: "6 sent 1 heard 3",
-        ..PLAIN
-    },
-    Case {
-        name: "a damaged segment",
-        steps: &[Ask, Accept(0), Damaged(0, 49), Cut(0, 49)],
-        counts: "6 sent 1 heard 3",
-        ..PLAIN
-    },
-    Case {
-        name: "a damaged segment alone",
-        steps: &[Ask, Accept(0), Damaged(0, 49)],
-        accepted: "0 open",
-        outcome: "out-of-time",
-        counts: "4 sent 1 heard 2",
-        ..ENDED
-    },
-    Case {
-        name: "from another port",
-        steps: &[Ask, Accept(0), FromElsewhere(0, 49)],
-        accepted: "0 open",
-        outcome: "out-of-time",
-        counts: "4 sent 1 heard 2",
-        ..ENDED
-    },
-    Case {
-        name: "frames that are too short",
-        steps: &[Stray, Ask, Stray, Accept(0), Cut(0, 49)],
-        counts: "8 sent 1 heard 4",
-        ..PLAIN
-    },
-    // sequence numbers that wrap
-    Case {
-        name: "the station begins with the last number",
-        steps: &[Ask, Accept(0), Cut(0, 49)],
-        iss: u32::MAX,
-        counts: "4 sent 1 heard 2",
-        ..PLAIN
-    },
-    Case {
-        name: "the peer begins with the last number",
-        steps: &[Ask, Accept(0), Cut(0, 30), Cut(30, 49)],
-        irs: u32::MAX,
-        counts: "6 sent 1 heard 3",
-        ..PLAIN
-    },
-    Case {
-        name: "the stream begins with the last number",
-        steps: &[Ask, Accept(0), Cut(1, 49), Cut(0, 1)],
-        irs: u32::MAX - 1,
-        counts: "6 sent 1 heard 3",
-        ..PLAIN
-    },
-    Case {
-        name: "the numbers wrap in a late segment",
-        steps: &[Ask, Accept(0), Cut(20, 49), Cut(0, 25)],
-        irs: u32::MAX - 22,
-        counts: "6 sent 1 heard 3",
-        ..PLAIN
-    },
-    Case {
-        name: "a reset with number 0",
-        steps: &[Ask, Accept(0), Cut(0, 30), Reset(30)],
-        irs: u32::MAX - 30,
-        accepted: "30 open",
-        outcome: "reset",
-        counts: "6 sent 1 heard 3",
-        ..ENDED
-    },
-    Case {
-        name: "the peer begins with number 0",
-        steps: &[Ask, Accept(0), Cut(20, 49), Cut(0, 20)],
-        irs: 0,
-        counts: "6 sent 1 heard 3",
-        ..PLAIN
-    },
-];
+const SEGMENTS: &str = r"
+// segments of all sorts
+# a segment in fragments
+send ask | accept 0 | in-fragments 0 49
+gives 0 | 0123456789 | 49 open | success 10 | 12 sent 1 heard 6
+# late
+send ask | accept 0 | cut 40 49 | cut 20 40 | cut 0 20
+gives 0 | 0123456789 | 49 open | success 10 | 8 sent 1 heard 4
+# repeated
+send ask | accept 0 | cut 0 20 | cut 0 20 | cut 10 49
+gives 0 | 0123456789 | 49 open | success 10 | 8 sent 1 heard 4
+# other octets over those that came
+send ask | accept 0 | cut 0 45 | other 40 49
+gives 0 | 012345xxxx | 49 open | success 10 | 6 sent 1 heard 3
+# other octets that came first
+send ask | accept 0 | other 45 49 | cut 0 49
+gives 0 | 012345xxxx | 49 open | success 10 | 6 sent 1 heard 3
+# a damaged segment
+send ask | accept 0 | damaged 0 49 | cut 0 49
+gives 0 | 0123456789 | 49 open | success 10 | 6 sent 1 heard 3
+# a damaged segment alone
+send ask | accept 0 | damaged 0 49
+gives 1 | | 0 open | out-of-time | 4 sent 1 heard 2
+# from another port
+send ask | accept 0 | from-elsewhere 0 49
+gives 1 | | 0 open | out-of-time | 4 sent 1 heard 2
+# frames that are too short
+send stray | ask | stray | accept 0 | cut 0 49
+gives 0 | 0123456789 | 49 open | success 10 | 8 sent 1 heard 4
+// sequence numbers that wrap
+# the station begins with the last number
+station 4294967295
+send ask | accept 0 | cut 0 49
+gives 0 | 0123456789 | 49 open | success 10 | 4 sent 1 heard 2
+# the peer begins with the last number
+peer 4294967295
+send ask | accept 0 | cut 0 30 | cut 30 49
+gives 0 | 0123456789 | 49 open | success 10 | 6 sent 1 heard 3
+# the stream begins with the last number
+peer 4294967294
+send ask | accept 0 | cut 1 49 | cut 0 1
+gives 0 | 0123456789 | 49 open | success 10 | 6 sent 1 heard 3
+# the numbers wrap in a late segment
+peer 4294967273
+send ask | accept 0 | cut 20 49 | cut 0 25
+gives 0 | 0123456789 | 49 open | success 10 | 6 sent 1 heard 3
+# a reset with number 0
+peer 4294967265
+send ask | accept 0 | cut 0 30 | reset 30
+gives 1 | | 30 open | reset | 6 sent 1 heard 3
+# the peer begins with number 0
+peer 0
+send ask | accept 0 | cut 20 49 | cut 0 20
+gives 0 | 0123456789 | 49 open | success 10 | 6 sent 1 heard 3
+";
+
+#[test]
+fn answers_to_ends(rt: HostRuntime) -> Result<(), Fail> {
+    check_rows(&rt, ENDS, 12)
+}
+
+#[test]
+fn answers_to_connections(rt: HostRuntime) -> Result<(), Fail> {
+    check_rows(&rt, CONNECTIONS, 13)
+}
+
+#[test]
+fn answers_to_segments(rt: HostRuntime) -> Result<(), Fail> {
+    check_rows(&rt, SEGMENTS, 15)
+}

@@ -1,167 +1,256 @@
-//! What `extract` answers to every way in which a download can go. The answers are those of the definitions, worked out by
-//! hand. The cases stand beside this file.
-use crate::capture_tests::{Form, Plan, Step, capture_of};
-use crate::extract_responses::RESPONSES;
-use crate::extract_segments::{CONNECTIONS, ENDS, SEGMENTS};
-use crate::{ENDED_OTHERWISE, SUCCESS, run};
+//! What `extract` answers to the captures of a table. A table is a text with a row for each capture:
+//!
+//! ```text
+//! # the name of the row
+//! stream the octets that the peer sends, where they aren't those of a plain response
+//! station the number with which the station begins, where it isn't 65,536
+//! peer the number with which the peer begins, where it isn't 1,000
+//! words the command line, where it isn't `extract`
+//! to the peer that the report tells, where it isn't 10.0.0.1:80
+//! send the steps of the capture, with bars between
+//! gives the status | the image | what is accepted | the outcome | the counts
+//! refuses the line that refuses the capture, in place of what it gives
+//! // a note
+//! ```
+//!
+//! The answers are those of the definitions, worked out by hand. The tables stand beside this file.
+use crate::capture_tests::{Form, Writer, begun};
+use crate::frame_tests::joined;
+use crate::sent_tests::{Plan, put_step};
+use crate::step_tests::step_of;
+use crate::text_tests::{field_of, number_of, octets_of, word_of};
+use crate::{BAD_INPUT, ENDED_OTHERWISE, SUCCESS, run};
 use efi_base::{DropSink, MemSink, MemSource};
-use std::alloc::Global;
+use std::alloc::{AllocError, Global};
 use std::process::Abort;
 use std::test::Fail;
 
-/// A response whose length is stated: a head of 39 octets, and an image of 10.
-pub const LENGTH: &str = "HTTP/1.1 200 OK\r\nContent-Length: 10\r\n\r\n0123456789";
-
-/// The same image in chunks, behind a head of 47 octets.
-pub const CHUNKED: &str =
-    "HTTP/1.1 200 OK\r\nTransfer-Encoding: chunked\r\n\r\n4\r\n0123\r\n6;x=y\r\n456789\r\n0\r\nT: 1\r\n\r\n";
-
-/// The same image until the end of the stream, behind a head of 19 octets.
-pub const CLOSE: &str = "HTTP/1.1 200 OK\r\n\r\n0123456789";
-
-/// A capture, as it is made, and what `extract` answers to it: its status, the image, and what the report tells.
+/// A row's name, and its other lines.
 #[derive(Clone, Copy)]
-pub struct Case {
-    pub name: &'static str,
-    pub stream: &'static str,
-    pub steps: &'static [Step],
-    pub iss: u32,
-    pub irs: u32,
-    pub words: &'static str,
-    pub status: u8,
-    pub image: &'static str,
-    pub peer: &'static str,
-    pub accepted: &'static str,
-    pub outcome: &'static str,
-    pub counts: &'static str,
+struct Row<'a> {
+    name: &'a str,
+    lines: &'a str,
 }
 
-pub const PLAIN: Case = Case {
-    name: "a plain download",
-    stream: LENGTH,
-    steps: &[Step::Ask, Step::Accept(0), Step::Cut(0, 49)],
-    iss: 65_536,
-    irs: 1_000,
-    words: "extract",
-    status: SUCCESS,
-    image: "0123456789",
-    peer: "10.0.0.1:80",
-    accepted: "49 open",
-    outcome: "success 10",
-    counts: "4 sent 1 heard 2",
-};
+/// What `extract` answers.
+#[derive(Clone, Copy)]
+struct Gives<'a> {
+    status: u8,
+    image: &'a str,
+    accepted: &'a str,
+    outcome: &'a str,
+    counts: &'a str,
+}
 
-pub const ENDED: Case = Case {
-    status: ENDED_OTHERWISE,
-    image: "",
-    ..PLAIN
-};
+/// The stream of a plain response: a head of 39 octets, and an image of 10.
+const STREAM: &str = r"HTTP/1.1 200 OK\r\nContent-Length: 10\r\n\r\n0123456789";
 
-/// The words between blanks.
-fn words_of(alloc: Global, text: &str, emit: &str) -> Result<Vec<String>, Fail> {
-    let mut words = Vec::new(alloc);
-    for word in text.split(' ') {
-        words.push(String::from_str(alloc, word)?)?;
+/// Runs `extract` on each row of a table, which has so many.
+pub(crate) fn check_rows<R: Abort + AllocGlobal>(
+    rt: &R,
+    table: &str,
+    count: usize,
+) -> Result<(), Fail> {
+    let Some((_, table)) = table.split_once('#') else {
+        return Err(Fail::new("a table without a row"));
+    };
+    let mut rows = 0usize;
+    for text in table.split('#') {
+        check_row(rt, text)?;
+        rows = rows.wrapping_add(1);
     }
-    words.push(String::from_str(alloc, "--emit")?)?;
-    words.push(String::from_str(alloc, emit)?)?;
+    assert_eq!(rt; rows, count, "rows of the table");
+    Ok(())
+}
+
+fn check_row<R: Abort + AllocGlobal>(rt: &R, text: &str) -> Result<(), Fail> {
+    let Some((name, lines)) = text.split_once('\n') else {
+        return Err(Fail::new("a row without lines"));
+    };
+    let row = Row {
+        name: name.trim(),
+        lines,
+    };
+    assert!(rt; are_known(lines), "{name}");
+    match line_of(lines, "refuses") {
+        Some(line) => check_refusal(rt, row, line),
+        None => check_download(rt, row),
+    }
+}
+
+fn are_known(lines: &str) -> bool {
+    for line in lines.lines() {
+        let (word, _) = word_of(line.trim());
+        if !is_known(word) {
+            return false;
+        }
+    }
+    true
+}
+
+fn is_known(word: &str) -> bool {
+    match word {
+        "" | "//" | "stream" | "station" | "peer" | "words" | "to" | "send" | "gives" | "refuses" =>
+            true,
+        _ => false,
+    }
+}
+
+/// What stands behind a word in the first line that begins with it.
+fn line_of<'a>(lines: &'a str, word: &str) -> Option<&'a str> {
+    for line in lines.lines() {
+        let (first, rest) = word_of(line.trim());
+        if first == word {
+            return Some(rest);
+        }
+    }
+    None
+}
+
+/// The same, or this where there is no such line.
+fn line_or<'a>(lines: &'a str, word: &str, other: &'a str) -> &'a str {
+    match line_of(lines, word) {
+        Some(line) => line,
+        None => other,
+    }
+}
+
+/// Tests that both commands write just the line that refuses the input.
+fn check_refusal<R: Abort + AllocGlobal>(rt: &R, row: Row<'_>, line: &str) -> Result<(), Fail> {
+    let text = joined(rt.alloc(), &[line.as_bytes(), b"\n"])?;
+    check_answer(rt, row, Form::Little, "--emit image", BAD_INPUT, &text)?;
+    check_answer(rt, row, Form::Big, "--emit report", BAD_INPUT, &text)
+}
+
+/// Tests the image of the one form, and the report of the other.
+fn check_download<R: Abort + AllocGlobal>(rt: &R, row: Row<'_>) -> Result<(), Fail> {
+    let Some(gives) = gives_of(line_or(row.lines, "gives", "")) else {
+        return Err(Fail::new(row.name));
+    };
+    let peer = line_or(row.lines, "to", "10.0.0.1:80");
+    let report = report_of(rt.alloc(), peer, &gives)?;
+    let (status, image) = (gives.status, gives.image.as_bytes());
+    check_answer(rt, row, Form::Little, "--emit image", status, image)?;
+    check_answer(rt, row, Form::Big, "--emit report", status, &report)
+}
+
+fn gives_of(text: &str) -> Option<Gives<'_>> {
+    let (status, rest) = field_of(text)?;
+    let (image, rest) = field_of(rest)?;
+    let (accepted, rest) = field_of(rest)?;
+    let (outcome, counts) = field_of(rest)?;
+    Some(Gives {
+        status: status_of(status)?,
+        image,
+        accepted,
+        outcome,
+        counts,
+    })
+}
+
+fn status_of(text: &str) -> Option<u8> {
+    match text {
+        "0" => Some(SUCCESS),
+        "1" => Some(ENDED_OTHERWISE),
+        _ => None,
+    }
+}
+
+/// The report of a row.
+fn report_of(alloc: Global, peer: &str, gives: &Gives<'_>) -> Result<Vec<u8>, AllocError> {
+    joined(
+        alloc,
+        &[
+            b"efiboot report 1\nlease -\nuri -\npeer ",
+            peer.as_bytes(),
+            b"\naccepted ",
+            gives.accepted.as_bytes(),
+            b"\noutcome ",
+            gives.outcome.as_bytes(),
+            b"\ntick ",
+            gives.counts.as_bytes(),
+            b"\n",
+        ],
+    )
+}
+
+/// Tests the status and what is written.
+fn check_answer<R: Abort + AllocGlobal>(
+    rt: &R,
+    row: Row<'_>,
+    form: Form,
+    emit: &str,
+    wanted: u8,
+    text: &[u8],
+) -> Result<(), Fail> {
+    let capture = capture_of(rt.alloc(), row.lines, form)?;
+    let words = words_of(rt.alloc(), line_or(row.lines, "words", "extract"), emit)?;
+    let (status, same) = answer_of(rt.alloc(), &words, capture, text);
+    let name = row.name;
+    assert_eq!(rt; status, wanted, "{name} {emit}");
+    assert!(rt; same, "{name} {emit}");
+    Ok(())
+}
+
+/// The status, and whether just this is written.
+fn answer_of(alloc: Global, words: &Vec<String>, capture: Vec<u8>, text: &[u8]) -> (u8, bool) {
+    let mut src = MemSource::new(capture, Vec::new(alloc));
+    let mut out = MemSink::new(alloc, Vec::new(alloc));
+    let status = run(alloc, words, &mut src, &mut out, &mut DropSink);
+    (status, out.octets() == text)
+}
+
+/// The capture of a row.
+fn capture_of(alloc: Global, lines: &str, form: Form) -> Result<Vec<u8>, Fail> {
+    let Some(iss) = number_of(line_or(lines, "station", "65536")) else {
+        return Err(Fail::new("a number of the station"));
+    };
+    let Some(irs) = number_of(line_or(lines, "peer", "1000")) else {
+        return Err(Fail::new("a number of the peer"));
+    };
+    let stream = octets_of(alloc, line_or(lines, "stream", STREAM))?;
+    let plan = Plan {
+        stream: &stream,
+        iss,
+        irs,
+    };
+    steps_capture(alloc, &plan, form, lines)
+}
+
+/// The capture of the steps in lines.
+fn steps_capture(alloc: Global, plan: &Plan<'_>, form: Form, lines: &str) -> Result<Vec<u8>, Fail> {
+    let mut writer = begun(alloc, form)?;
+    for line in lines.lines() {
+        let (key, steps) = word_of(line.trim());
+        if key == "send" {
+            put_steps(&mut writer, plan, steps)?;
+        }
+    }
+    let Writer { octets, .. } = writer;
+    Ok(octets)
+}
+
+fn put_steps(writer: &mut Writer, plan: &Plan<'_>, steps: &str) -> Result<(), Fail> {
+    for text in steps.split('|') {
+        let Some(step) = step_of(text.trim()) else {
+            return Err(Fail::new(text));
+        };
+        put_step(writer, plan, step)?;
+    }
+    Ok(())
+}
+
+/// The words between blanks of both texts.
+fn words_of(alloc: Global, first: &str, second: &str) -> Result<Vec<String>, AllocError> {
+    let mut words = Vec::new(alloc);
+    put_words(alloc, &mut words, first)?;
+    put_words(alloc, &mut words, second)?;
     Ok(words)
 }
 
-/// The status, and what is written.
-fn answer_of(alloc: Global, case: &Case, form: Form, emit: &str) -> Result<(u8, Vec<u8>), Fail> {
-    let plan = Plan {
-        stream: case.stream,
-        steps: case.steps,
-        iss: case.iss,
-        irs: case.irs,
-    };
-    let mut src = MemSource::new(capture_of(alloc, &plan, form)?, Vec::new(alloc));
-    let mut out = MemSink::new(alloc, Vec::new(alloc));
-    let words = words_of(alloc, case.words, emit)?;
-    let status = run(alloc, &words, &mut src, &mut out, &mut DropSink);
-    let mut octets = Vec::new(alloc);
-    octets.extend_from_slice(out.octets())?;
-    Ok((status, octets))
-}
-
-/// The report of a case.
-fn report_of(alloc: Global, case: &Case) -> Result<String, Fail> {
-    let mut text = String::from_str(alloc, "efiboot report 1\nlease -\nuri -\n")?;
-    write!(text, "peer {}\naccepted {}\n", case.peer, case.accepted)?;
-    write!(text, "outcome {}\ntick {}\n", case.outcome, case.counts)?;
-    Ok(text)
-}
-
-fn check_image<R: Abort + AllocGlobal>(rt: &R, case: &Case) -> Result<(), Fail> {
-    let name = case.name;
-    let (status, image) = answer_of(rt.alloc(), case, Form::Little, "image")?;
-    assert_eq!(rt; status, case.status, "{name}");
-    assert_eq!(rt; image.as_slice(), case.image.as_bytes(), "{name}");
-    Ok(())
-}
-
-fn check_images<R: Abort + AllocGlobal>(rt: &R, cases: &[Case]) -> Result<(), Fail> {
-    for case in cases {
-        check_image(rt, case)?;
+fn put_words(alloc: Global, words: &mut Vec<String>, text: &str) -> Result<(), AllocError> {
+    for word in text.split_whitespace() {
+        words.push(String::from_str(alloc, word)?)?;
     }
     Ok(())
-}
-
-fn check_report<R: Abort + AllocGlobal>(rt: &R, case: &Case) -> Result<(), Fail> {
-    let name = case.name;
-    let (status, report) = answer_of(rt.alloc(), case, Form::Big, "report")?;
-    let wanted = report_of(rt.alloc(), case)?;
-    assert_eq!(rt; status, case.status, "{name}");
-    assert_eq!(rt; report.as_slice(), wanted.as_bytes(), "{name}");
-    Ok(())
-}
-
-fn check_reports<R: Abort + AllocGlobal>(rt: &R, cases: &[Case]) -> Result<(), Fail> {
-    for case in cases {
-        check_report(rt, case)?;
-    }
-    Ok(())
-}
-
-// A test for each table and form, since each has a limit of time.
-
-#[test]
-fn images_of_responses(rt: HostRuntime) -> Result<(), Fail> {
-    check_images(&rt, &RESPONSES[..])
-}
-
-#[test]
-fn images_of_ends(rt: HostRuntime) -> Result<(), Fail> {
-    check_images(&rt, &ENDS[..])
-}
-
-#[test]
-fn images_of_connections(rt: HostRuntime) -> Result<(), Fail> {
-    check_images(&rt, &CONNECTIONS[..])
-}
-
-#[test]
-fn images_of_segments(rt: HostRuntime) -> Result<(), Fail> {
-    check_images(&rt, &SEGMENTS[..])
-}
-
-#[test]
-fn reports_of_responses(rt: HostRuntime) -> Result<(), Fail> {
-    check_reports(&rt, &RESPONSES[..])
-}
-
-#[test]
-fn reports_of_ends(rt: HostRuntime) -> Result<(), Fail> {
-    check_reports(&rt, &ENDS[..])
-}
-
-#[test]
-fn reports_of_connections(rt: HostRuntime) -> Result<(), Fail> {
-    check_reports(&rt, &CONNECTIONS[..])
-}
-
-#[test]
-fn reports_of_segments(rt: HostRuntime) -> Result<(), Fail> {
-    check_reports(&rt, &SEGMENTS[..])
 }

@@ -5,7 +5,7 @@ use std::alloc::{AllocError, Global};
 
 /// One end of the connection.
 #[derive(Clone, Copy)]
-pub struct Place {
+pub(crate) struct Place {
     pub mac: [u8; 6],
     pub addr: [u8; 4],
     pub port: u16,
@@ -13,23 +13,35 @@ pub struct Place {
 
 /// A segment.
 #[derive(Clone, Copy)]
-pub struct Segment<'a> {
+pub(crate) struct Segment<'a> {
     pub from: Place,
     pub to: Place,
     pub seq: u32,
     pub ack: u32,
+    /// The octet that tells how long the header is, 0x50 where it has no options.
+    pub offset: u8,
     pub flags: u8,
+    pub options: &'a [u8],
     pub payload: &'a [u8],
 }
 
 /// What stands in the fields of checksums.
 #[derive(Clone, Copy)]
-pub enum Sums {
+pub(crate) enum Sums {
     Right,
     /// Zeros.
     Blank,
     /// A right one in the packet's header, and a wrong one in the segment.
     Damaged,
+}
+
+/// The parts, one after the other.
+pub(crate) fn joined(alloc: Global, parts: &[&[u8]]) -> Result<Vec<u8>, AllocError> {
+    let mut octets = Vec::new(alloc);
+    for part in parts {
+        octets.extend_from_slice(part)?;
+    }
+    Ok(octets)
 }
 
 /// A segment with its checksum, a wrong one or none.
@@ -38,18 +50,15 @@ pub(crate) fn segment_octets(
     sums: Sums,
     s: &Segment<'_>,
 ) -> Result<Vec<u8>, AllocError> {
-    let blank = tcp_octets(alloc, s, 0)?;
-    if let Sums::Blank = sums {
-        return Ok(blank);
-    }
-    let mut joined = Vec::new(alloc);
-    joined.extend_from_slice(&pseudo_header(s, blank.len()))?;
-    joined.extend_from_slice(&blank)?;
-    let sum = checksum(&[], &joined);
-    match sums {
-        Sums::Damaged => tcp_octets(alloc, s, sum ^ 1),
-        _ => tcp_octets(alloc, s, sum),
-    }
+    let mut octets = joined(alloc, &[&tcp_header(s), s.options, s.payload])?;
+    let sum = checksum(&pseudo_header(s, octets.len()), &octets);
+    let told = match sums {
+        Sums::Right => sum,
+        Sums::Blank => 0,
+        Sums::Damaged => sum ^ 1,
+    };
+    put_number(&mut octets, 16, told);
+    Ok(octets)
 }
 
 fn pseudo_header(s: &Segment<'_>, len: usize) -> [u8; 12] {
@@ -59,55 +68,82 @@ fn pseudo_header(s: &Segment<'_>, len: usize) -> [u8; 12] {
     [a, b, c, d, e, f, g, h, 0, 6, high, low]
 }
 
-/// A segment with this checksum, and without options.
-fn tcp_octets(alloc: Global, s: &Segment<'_>, sum: u16) -> Result<Vec<u8>, AllocError> {
-    let mut octets = Vec::new(alloc);
-    octets.extend_from_slice(&s.from.port.to_be_bytes())?;
-    octets.extend_from_slice(&s.to.port.to_be_bytes())?;
-    octets.extend_from_slice(&tcp_numbers(s, sum))?;
-    octets.extend_from_slice(s.payload)?;
-    Ok(octets)
-}
-
-/// The octets of a segment's header behind the ports.
-fn tcp_numbers(s: &Segment<'_>, sum: u16) -> [u8; 16] {
+/// The header in front of the options, without a checksum.
+fn tcp_header(s: &Segment<'_>) -> [u8; 20] {
+    let [i, j] = s.from.port.to_be_bytes();
+    let [k, l] = s.to.port.to_be_bytes();
     let [a, b, c, d] = s.seq.to_be_bytes();
     let [e, f, g, h] = s.ack.to_be_bytes();
-    let [high, low] = sum.to_be_bytes();
     [
-        a, b, c, d, e, f, g, h, 0x50, s.flags, 0xFF, 0xFF, high, low, 0, 0,
+        i, j, k, l, a, b, c, d, e, f, g, h, s.offset, s.flags, 0xFF, 0xFF, 0, 0, 0, 0,
     ]
 }
 
-/// The frame of a packet between the ends of a segment. `part` is the word with the flags and the place.
-pub(crate) fn frame_octets(
+/// Puts a number of two octets at a place, where it is there.
+fn put_number(octets: &mut [u8], place: usize, number: u16) {
+    let [high, low] = number.to_be_bytes();
+    put_octet(octets, place, high);
+    put_octet(octets, place.saturating_add(1), low);
+}
+
+/// Puts an octet at a place, where it is there.
+pub(crate) fn put_octet(octets: &mut [u8], place: usize, octet: u8) {
+    if let Some(slot) = octets.get_mut(place) {
+        *slot = octet;
+    }
+}
+
+/// A packet between the ends of a segment, with its number and without a checksum. `part` is the word with the flags and the
+/// place.
+pub(crate) fn packet_octets(
     alloc: Global,
-    sums: Sums,
     s: &Segment<'_>,
+    number: u16,
     part: u16,
     payload: &[u8],
 ) -> Result<Vec<u8>, AllocError> {
-    let blank = ip_header(s, part, payload.len(), 0);
-    let header = match sums {
-        Sums::Blank => blank,
-        _ => ip_header(s, part, payload.len(), checksum(&[], &blank)),
-    };
-    let mut frame = Vec::new(alloc);
-    frame.extend_from_slice(&ether_header(s))?;
-    frame.extend_from_slice(&header)?;
-    frame.extend_from_slice(payload)?;
-    Ok(frame)
+    joined(
+        alloc,
+        &[&ip_header(s, number, part, payload.len()), payload],
+    )
 }
 
-fn ip_header(s: &Segment<'_>, part: u16, len: usize, sum: u16) -> [u8; 20] {
+/// Puts the checksum that is right for as many words as the packet tells that its header has.
+pub(crate) fn put_header_sum(packet: &mut [u8]) {
+    let sum = checksum(&[], told_header(packet));
+    put_number(packet, 10, sum);
+}
+
+/// As many octets as the packet tells that its header has, or all.
+fn told_header(packet: &[u8]) -> &[u8] {
+    let words = match packet.first() {
+        Some(first) => first % 16,
+        None => 0,
+    };
+    match packet.get(..usize::from(words) * 4) {
+        Some(header) => header,
+        None => packet,
+    }
+}
+
+fn ip_header(s: &Segment<'_>, number: u16, part: u16, len: usize) -> [u8; 20] {
     let [a, b, c, d] = s.from.addr;
     let [e, f, g, h] = s.to.addr;
     let [long, short] = ((len % 65_516 + 20) as u16).to_be_bytes();
+    let [i, j] = number.to_be_bytes();
     let [top, place] = part.to_be_bytes();
-    let [high, low] = sum.to_be_bytes();
     [
-        0x45, 0, long, short, 0, 7, top, place, 64, 6, high, low, a, b, c, d, e, f, g, h,
+        0x45, 0, long, short, i, j, top, place, 64, 6, 0, 0, a, b, c, d, e, f, g, h,
     ]
+}
+
+/// The frame of a packet between the ends of a segment.
+pub(crate) fn frame_octets(
+    alloc: Global,
+    s: &Segment<'_>,
+    packet: &[u8],
+) -> Result<Vec<u8>, AllocError> {
+    joined(alloc, &[&ether_header(s), packet])
 }
 
 fn ether_header(s: &Segment<'_>) -> [u8; 14] {

@@ -15,12 +15,26 @@ mod extract_segments;
 mod extract_tests;
 #[cfg(test)]
 mod frame_tests;
+#[cfg(test)]
+mod hostile_heads;
+#[cfg(test)]
+mod hostile_packets;
+#[cfg(test)]
+mod hostile_records;
+#[cfg(test)]
+mod hostile_segments;
 // the report of what a capture shows
 mod report;
+#[cfg(test)]
+mod sent_tests;
 // the exit statuses
 mod status;
 #[cfg(test)]
+mod step_tests;
+#[cfg(test)]
 mod tests;
+#[cfg(test)]
+mod text_tests;
 // the top call
 mod top;
 // an input in pieces, and what the capture that it is shows

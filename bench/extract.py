@@ -1,5 +1,5 @@
 #!/usr/bin/env python3
-"""Times `efiboot extract` against `cat`, `tcpflow` and `tcpick` on the same captures of one download.
+"""Times `efiboot extract` against `cat`, `hold`, `tcpflow` and `tcpick` on the same captures of one download.
 
 Usage: bench/extract.py [--megabytes N] [--tries N] [--program PROGRAM] [KIND ..]
 
@@ -12,7 +12,8 @@ Makes a capture of N megabytes (200 by default) for each kind of download, or fo
   small     segments of 536 octets in order
 
 and lets each program read it, `cat` to a file, and the others (`tcpflow` and `tcpick` where they are installed) with the
-stream or image to a file. Times are the least of three (`--tries`). What `extract` writes is compared with the image. The
+stream or image to a file. `hold` is Python reading its whole input into memory and then writing it, and nothing else: what
+any program spends that may write nothing before its input's end. Times are the least of three (`--tries`). What `extract` writes is compared with the image. The
 memory is the most that was resident at once, and is never told as less than this script's own, some 20 MB.
 
 PROGRAM is efiboot as it was built (crates/efiboot/out/efiboot by default, which `./efiboot` builds first where it has to).
@@ -38,6 +39,7 @@ HEADERS = 16 + 14 + 20 + 20
 PIECE = 2**20
 CHUNK = 4096
 BUFFER = 2**30
+HOLD = "import sys; sys.stdout.buffer.write(sys.stdin.buffer.read())"
 KINDS = {
     # segment size, one in so many comes later, by so many segments, chunked
     "order": (1460, 0, 0, False),
@@ -171,6 +173,7 @@ def readers(program, capture, output):
     """The programs that read the capture: their words, and what stands at standard input and output."""
     found = {
         "cat": (["cat"], capture, output),
+        "hold": ([sys.executable, "-c", HOLD], capture, output),
         "efiboot": ([program, "extract", "--buffer", str(BUFFER)], capture, output),
     }
     if shutil.which("tcpflow"):
@@ -212,6 +215,7 @@ def show(kind, found, octets, length, first):
     took, _ = found["efiboot"]
     if "tcpflow" in found:
         print(f"  efiboot is {found['tcpflow'][0] / took:.2f} times as fast as tcpflow")
+    print(f"  efiboot takes {took / found['hold'][0]:.2f} of hold's time")
     if found is not first:
         print(f"  efiboot takes {took / first['efiboot'][0]:.2f} of its time on the first capture")
     sys.stdout.flush()

@@ -1,13 +1,15 @@
 -- The slots of a ring from a place on: how many, what stands in each, and what puts, takes and walks make of them.
-use Rattle.std.proofs.Common.{inl, inr, ◌∙◌, ◌≡◌, ◌⊎◌, ℕ, zero, suc, ◌+◌, ◌-◌, ◌%◌, ◌<◌, ◌≤◌, ◌==◌, Bool, true, false, List, [], ◌∷◌, ◌++◌, length, get_or, take, drop, max, Option, Some, None, is_none, refl, ap, sym, arith}
+use Rattle.std.proofs.Common.{inl, inr, ◌∙◌, ◌≡◌, ◌⊎◌, ℕ, zero, suc, ◌+◌, ◌-◌, ◌%◌, ◌<◌, ◌≤◌, ◌==◌, Bool, true, false, List, [], ◌∷◌, ◌++◌, length, get_or, take, drop, max, min, Option, Some, None, is_none, refl, ap, sym, arith}
 use Rattle.std.specs.List.{list_all}
 use Rattle.std.proofs.Math.Nat.{add-mod_right}
 use Rattle.std.proofs.lemmas.Bool.{cases_lt, cases_Bool}
 use Rattle.std.proofs.lemmas.List.{get_or-take, length-take, take-append-drop}
 use Rattle.std.proofs.lemmas.Grind.{same_number_lists}
 use Rattle.std.proofs.lemmas.Bool.Decides.{nat_tests}
+use Rattle.std.proofs.lemmas.Nat.{mod_below}
 use Rattle.efi_window.specs.Places.{front, put}
 use Rattle.efi_window.specs.Kept.{is_kept, slot, slots, IsPlaced}
+use Rattle.efi_window.proofs.Rounds.{all-round, within-reach}
 
 -- ---- slots
 
@@ -194,6 +196,35 @@ module _ (taken first room : ℕ) (bytes ring words now new : List ℕ) (order :
       → max span (first - taken + length bytes) ≤ i → i < room → is_kept new ((taken + i) % room) ≡ false
   free-put span i free h k = put-others i k (inr (omega arith)) ∙ free i (omega arith) k
 
+  -- each byte that is kept now stands within a ring that is long enough for what was kept and what was put
+  pub used-put : (span old len i : ℕ) → old ≤ len → min (first % room + length bytes) room ≤ len
+      → ((j : ℕ) → j < span → is_kept words ((taken + j) % room) ≡ true → (taken + j) % room < old)
+      → ((j : ℕ) → span ≤ j → j < room → is_kept words ((taken + j) % room) ≡ false)
+      → i < room → is_kept new ((taken + i) % room) ≡ true → (taken + i) % room < len
+  used-put span old len i longer enough used free h kept = elim (cases_lt i (first - taken)) [
+    | inl l ↦ before (inl l)
+    | inr l ↦ elim (cases_lt i (first - taken + length bytes)) [
+      | inl m ↦ rw (past-first taken first room i order l) (within-reach first room (length bytes) len (i - (first - taken)) (omega arith) (omega arith) enough)
+      | inr m ↦ before (inr m)
+    ]
+  ]
+    where
+      before : (i < first - taken) ⊎ (first - taken + length bytes ≤ i) → (taken + i) % room < len
+      before k =
+          let was = sym (put-others i h k) ∙ kept in
+          elim (cases_lt i span) [
+            | inl l ↦ omega (arith, used i l was)
+            | inr l ↦ absurd (cc (free i l h))
+          ]
+
+-- a ring that is longer, with the same bytes
+pub slots-longer : (room : ℕ) (ring longer words : List ℕ) (place count : ℕ) → ((i : ℕ) → get_or longer i 0 ≡ get_or ring i 0)
+    → slots room longer words place count ≡ slots room ring words place count
+slots-longer room ring longer words place zero e = refl
+slots-longer room ring longer words place (suc count) e =
+    let head = ap (slot (is_kept words (place % room))) (e (place % room)) in
+    rw head (ap (λ l. slot (is_kept words (place % room)) (get_or ring (place % room) 0) ∷ l) (slots-longer room ring longer words (suc place) count e))
+
 -- ---- a take
 
 -- the same slots with other bits
@@ -230,6 +261,20 @@ slots-taken room ring words new place n span h k e =
     rw f (e (n + i) (omega arith) (omega arith)))
     ∙ slots-behind room ring words place n span h
 
+-- the same where the ring's front moves on with what was taken, once nothing is kept
+pub slots-moved : (room : ℕ) (ring words new : List ℕ) (place to n span : ℕ) → n ≤ span → span ≤ room
+    → ((i : ℕ) → n ≤ i → i < room → is_kept new ((place + i) % room) ≡ is_kept words ((place + i) % room))
+    → (0 < span - n → to ≡ place + n)
+    → slots room ring new to (span - n) ≡ drop n (slots room ring words place span)
+slots-moved room ring words new place to n span h k e moved = elim (cases_lt 0 (span - n)) [
+  | inl l ↦ ap (λ p. slots room ring new p (span - n)) (moved l) ∙ slots-taken room ring words new place n span h k e
+  | inr l ↦
+      let none : span - n ≡ 0 = omega arith in
+      ap (λ c. slots room ring new to c) none
+      ∙ sym (ap (λ c. slots room ring new (place + n) c) none)
+      ∙ slots-taken room ring words new place n span h k e
+]
+
 pub free-taken : (room : ℕ) (words new : List ℕ) (place n span i : ℕ) → n ≤ span → span ≤ room
     → ((j : ℕ) → span ≤ j → j < room → is_kept words ((place + j) % room) ≡ false)
     → ((j : ℕ) → j < n → is_kept new ((place + j) % room) ≡ false)
@@ -244,6 +289,30 @@ free-taken room words new place n span i h k free freed others a b =
           let f : place + n + i ≡ place + (n + i - room) + room = omega arith in
           rw f (ap (is_kept new) (add-mod_right (place + (n + i - room)) room) ∙ freed (n + i - room) (omega arith))
     ]
+
+pub free-moved : (room : ℕ) (words new : List ℕ) (place to n span i : ℕ) → n ≤ span → span ≤ room
+    → ((j : ℕ) → span ≤ j → j < room → is_kept words ((place + j) % room) ≡ false)
+    → ((j : ℕ) → j < n → is_kept new ((place + j) % room) ≡ false)
+    → ((j : ℕ) → n ≤ j → j < room → is_kept new ((place + j) % room) ≡ is_kept words ((place + j) % room))
+    → (0 < span - n → to ≡ place + n)
+    → span - n ≤ i → i < room → is_kept new ((to + i) % room) ≡ false
+free-moved room words new place to n span i h k free freed others moved a b = elim (cases_lt 0 (span - n)) [
+  | inl l ↦ ap (λ p. is_kept new ((p + i) % room)) (moved l) ∙ free-taken room words new place n span i h k free freed others a b
+  | inr l ↦ all-round (is_kept new) false (place + n) room ((to + i) % room) (mod_below (to + i) room (omega arith))
+      (λ j m. free-taken room words new place n span j h k free freed others (omega arith) m)
+]
+
+-- a byte that stays kept stands where it stood
+pub used-moved : (room len : ℕ) (words new : List ℕ) (place to n span i : ℕ) → n ≤ span → span ≤ room
+    → ((j : ℕ) → j < span → is_kept words ((place + j) % room) ≡ true → (place + j) % room < len)
+    → ((j : ℕ) → n ≤ j → j < room → is_kept new ((place + j) % room) ≡ is_kept words ((place + j) % room))
+    → (0 < span - n → to ≡ place + n)
+    → i < span - n → is_kept new ((to + i) % room) ≡ true → (to + i) % room < len
+used-moved room len words new place to n span i h k used others moved a kept =
+    let e : to + i ≡ place + (n + i) = omega (arith, moved (omega arith)) in
+    let was : is_kept words ((place + (n + i)) % room) ≡ true =
+    sym (others (n + i) (omega arith) (omega arith)) ∙ ap (λ p. is_kept new (p % room)) (sym e) ∙ kept in
+    rw e (used (n + i) (omega arith) was)
 
 -- ---- walks
 
@@ -299,7 +368,7 @@ front-slots room ring words place span i h k kept =
     some-same : (a b : ℕ) → Some a ≡ Some b → a ≡ b
     some-same a b e = cc
 
-pub free-slots : (room : ℕ) (ring words : List ℕ) (taken place span run : ℕ) → taken ≤ place → run ≤ span - (place - taken)
+free-slots : (room : ℕ) (ring words : List ℕ) (taken place span run : ℕ) → taken ≤ place → run ≤ span - (place - taken)
     → ((i : ℕ) → i < run → is_kept words ((place + i) % room) ≡ false)
     → (run < span - (place - taken) → is_kept words ((place + run) % room) ≡ true)
     → (run == span - (place - taken)) ≡ list_all is_none (drop (place - taken) (slots room ring words taken span))
@@ -324,6 +393,15 @@ free-slots room ring words taken place span run order h free ends =
 
     same : span - (place - taken) ≤ run → (run == span - (place - taken)) ≡ true
     same l = let e : run ≡ span - (place - taken) = omega arith in grind (arith, nat_tests, e)
+
+-- the same where the ring's front isn't the first place of all
+pub free-slots-at : (room : ℕ) (ring words : List ℕ) (origin taken place span run : ℕ) → origin ≤ taken → taken ≤ place → run ≤ span - (place - taken)
+    → ((i : ℕ) → i < run → is_kept words ((place - origin + i) % room) ≡ false)
+    → (run < span - (place - taken) → is_kept words ((place - origin + run) % room) ≡ true)
+    → (run == span - (place - taken)) ≡ list_all is_none (drop (place - taken) (slots room ring words (taken - origin) span))
+free-slots-at room ring words origin taken place span run front order h free ends =
+    let e : place - origin - (taken - origin) ≡ place - taken = omega arith in
+    rw e at (free-slots room ring words (taken - origin) (place - origin) span run (omega arith) (omega arith) free (λ l. ends (omega arith)))
 
 -- the bytes that were copied for a take
 pub taken-bytes : (room : ℕ) (ring words : List ℕ) (place span run count : ℕ) (out old : List ℕ)

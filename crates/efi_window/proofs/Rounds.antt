@@ -88,8 +88,8 @@ placed place room first bytes one two ring words mid mids now new some fits f e 
     }
 
 -- two runs that were copied
-pub copied : (place room count first second i : ℕ) (ring out rest : List ℕ) → length ring ≡ room → 0 < room → count ≤ room
-    → first ≡ min count (room - place % room) → second ≡ count - first
+pub copied : (place room count first second i : ℕ) (ring out rest : List ℕ) → min (place % room + count) room ≤ length ring → 0 < room
+    → count ≤ room → first ≡ min count (room - place % room) → second ≡ count - first
     → out ≡ take first (drop (place % room) ring) ++ take second ring ++ rest → i < count
     → get_or out i 0 ≡ get_or ring ((place + i) % room) 0
 copied place room count first second i ring out rest len some fits f s e h =
@@ -113,6 +113,26 @@ copied place room count first second i ring out rest len some fits f s e h =
     ∙ get_or-take second ring (i - first) 0 (omega arith)
     ∙ ap (λ j. get_or ring j 0) back)))
 
+-- a ring that holds all of some places is long enough for them, and the other way round
+pub reached : (at room count len : ℕ) → 0 < count → count ≤ room → ((i : ℕ) → i < count → (at + i) % room < len)
+    → min (at % room + count) room ≤ len
+reached at room count len some fits inside =
+    let low : at % room < room = mod_below at room (omega arith) in
+    elim (cases_lt (at % room + (count - 1)) room) [
+      | inl l ↦ omega (arith, near at room (count - 1) l, inside (count - 1) (omega arith))
+      | inr l ↦
+          let last : at % room + (room - 1 - at % room) < room = omega arith in
+          omega (arith, near at room (room - 1 - at % room) last, inside (room - 1 - at % room) (omega arith))
+    ]
+
+pub within-reach : (at room count len i : ℕ) → i < count → count ≤ room → min (at % room + count) room ≤ len → (at + i) % room < len
+within-reach at room count len i h fits enough =
+    let low : at % room < room = mod_below at room (omega arith) in
+    elim (cases_lt (at % room + i) room) [
+      | inl l ↦ omega (arith, near at room i l)
+      | inr l ↦ omega (arith, far at room i (omega arith) l)
+    ]
+
 -- what holds all round holds of each index
 pub all-round : (f : ℕ → Bool) (v : Bool) (place room k : ℕ) → k < room → ((i : ℕ) → i < room → f ((place + i) % room) ≡ v) → f k ≡ v
 all-round f v place room k h e =
@@ -127,6 +147,6 @@ all-round f v place room k h e =
     ]
 
 -- what was put, told of lists that are the same
-pub placed-as : (room place : ℕ) (bytes ring words now new items bits : List ℕ) → length ring ≡ room → ring ≡ items → words ≡ bits
-    → IsPlaced (length ring) place bytes ring words now new → IsPlaced room place bytes items bits now new
-placed-as room place bytes ring words now new items bits e f g p = rw (← e) (rw (← f) (rw (← g) p))
+pub placed-as : (room place : ℕ) (bytes ring words now new items bits : List ℕ) → ring ≡ items → words ≡ bits
+    → IsPlaced room place bytes ring words now new → IsPlaced room place bytes items bits now new
+placed-as room place bytes ring words now new items bits f g p = rw (← f) (rw (← g) p)

@@ -1,11 +1,12 @@
 //! The window.
-ghost use Rattle.std.specs.Prelude.{◌≡◌, ◌+◌, ◌-◌, ◌^◌, ◌≤◌, ◌++◌, ℕ, min, length, take, drop, IfOk, is_none, false, vec_len, ◌*◌};
+ghost use Rattle.std.specs.Prelude.{◌≡◌, ◌+◌, ◌-◌, ◌^◌, ◌<◌, ◌≤◌, ◌++◌, [], ℕ, min, length, take, drop, IfOk, is_none, false, vec_len, ◌*◌};
+ghost use Rattle.std.specs.Vec.{vec_capacity};
 ghost use Rattle.efi_window.specs.Kept.{is_kept};
 ghost use Rattle.std.specs.List.{list_all};
 ghost use Rattle.efi_window.specs.Places.{Places, fresh, ready_of, after_put, after_take};
 
 use crate::bits::WORD;
-use crate::ring::{copy, free, put, run};
+use crate::ring::{copy, free, put, reach, run};
 use efi_base::NoMemory;
 use std::alloc::Global;
 use std::marker::Model;
@@ -15,13 +16,16 @@ const END_OF_PLACES: u64 = 1 << 62;
 
 /// Bytes by place, from the first one that wasn't taken up to the window's edge. Places count octets.
 ///
-/// They stand in a ring, each at its place modulo the ring's length, so what stays is never moved. A bit says whether a
-/// place is kept. `span` counts the places from the first one that wasn't taken up to the last byte.
+/// They stand in a ring, so what stays is never moved. A bit says whether a place is kept. `origin` is a place that stands
+/// at the ring's front; while nothing is kept it moves on with what was taken, so octets that come in order use the front
+/// alone. The ring is as long as it was used, within memory for all of it. `span` counts the places from the first one that
+/// wasn't taken up to the last byte.
 #[derive(Debug, Drop)]
 pub struct Window {
     room: u32,
     cap: u32,
     taken: u64,
+    origin: u64,
     span: u64,
     ring: Vec<u8>,
     words: Vec<u64>,
@@ -30,12 +34,13 @@ pub struct Window {
 impl Model for Window {
     ghost use Rattle.efi_window.specs.Places.{Places};
     ghost use Rattle.efi_window.specs.Kept.{slots};
+    ghost use Rattle.std.specs.Prelude.{◌-◌};
 
     ghost Value = { Places };
 
     ghost use Rattle.efi_window.specs.Inside.{IsWindow};
 
-    ghost view = { λ w. record { room = w.room; cap = w.cap; taken = w.taken; held = slots w.room w.ring.items w.words.items w.taken w.span } };
+    ghost view = { λ w. record { room = w.room; cap = w.cap; taken = w.taken; held = slots w.room w.ring.items w.words.items (w.taken - w.origin) w.span } };
 
     ghost invariant = { IsWindow };
 }
@@ -45,12 +50,13 @@ impl Window {
     pub fn open(alloc: Global, cap: u32) -> Result<Window, NoMemory>
         ensures { IfOk result (λ w. w ≡ fresh cap cap) }
     {
-        let ring = octets(alloc, cap as usize)?;
+        let ring = memory(alloc, cap as usize)?;
         let words = free_places(alloc, cap as usize)?;
         Ok(Window {
             room: cap,
             cap,
             taken: 0,
+            origin: 0,
             span: 0,
             ring,
             words,
@@ -65,7 +71,10 @@ impl Window {
         let edge = (self.taken + self.cap as u64).min(END_OF_PLACES);
         let bytes = within(bytes, first - place, edge.saturating_sub(first));
         if !bytes.is_empty() {
-            put(&mut self.ring, &mut self.words, first, bytes);
+            let room = self.room as usize;
+            let at = first - self.origin;
+            reach(&mut self.ring, room, at, bytes.len());
+            put(&mut self.ring, &mut self.words, room, at, bytes);
             self.span = self.span.max(first - self.taken + bytes.len() as u64);
         }
     }
@@ -79,7 +88,7 @@ impl Window {
             &self.words,
             self.room as usize,
             true,
-            self.taken,
+            self.taken - self.origin,
             self.span as usize,
         ) as u64
     }
@@ -89,19 +98,22 @@ impl Window {
         ensures count { result ≡ min (length room.old) (length (ready_of self.old)) }
         ensures bytes { room.new ≡ take result (ready_of self.old) ++ drop result room.old }
         ensures window { self.new ≡ after_take self.old result }
+        ensures bound { self.old.taken + length (ready_of self.old) ≤ 2 ^ 62 }
     {
         let ready = run(
             &self.words,
             self.room as usize,
             true,
-            self.taken,
+            self.taken - self.origin,
             self.span as usize,
         );
         let count = ready.min(room.len());
-        copy(&self.ring, self.taken, count, room);
-        free(&mut self.words, self.room as usize, self.taken, count);
+        let at = self.taken - self.origin;
+        copy(&self.ring, self.room as usize, at, count, room);
+        free(&mut self.words, self.room as usize, at, count);
         self.taken += count as u64;
         self.span -= count as u64;
+        self.origin = front_of(self.origin, self.taken, self.span);
         count
     }
 
@@ -125,7 +137,13 @@ impl Window {
         ensures { result ≡ list_all is_none (drop (place - self.now.taken) self.now.held) }
     {
         let left = self.span.saturating_sub(place - self.taken) as usize;
-        run(&self.words, self.room as usize, false, place, left) == left
+        run(
+            &self.words,
+            self.room as usize,
+            false,
+            place - self.origin,
+            left,
+        ) == left
     }
 
     /// Empties the window and gives it another length, without taking memory.
@@ -137,13 +155,25 @@ impl Window {
         free(
             &mut self.words,
             self.room as usize,
-            self.taken,
+            self.taken - self.origin,
             self.span as usize,
         );
         self.taken = 0;
+        self.origin = 0;
         self.span = 0;
         self.cap = cap;
     }
+}
+
+/// The place at the ring's front: where nothing is kept, the first one that wasn't taken.
+fn front_of(origin: u64, taken: u64, span: u64) -> u64
+    ensures stays { 0 < span → result ≡ origin }
+    ensures moves { span ≡ 0 → result ≡ taken }
+{
+    if span == 0 {
+        return taken;
+    }
+    origin
 }
 
 /// What is left of octets behind some of them, up to so many.
@@ -160,11 +190,12 @@ fn within(bytes: &[u8], skipped: u64, most: u64) -> &[u8]
     &rest[..most as usize]
 }
 
-/// So many octets.
-fn octets(alloc: Global, len: usize) -> Result<Vec<u8>, NoMemory>
-    ensures { IfOk result (λ v. vec_len v ≡ len) }
+/// Memory for a ring of so many octets, of which none is there yet.
+fn memory(alloc: Global, len: usize) -> Result<Vec<u8>, NoMemory>
+    ensures none { IfOk result (λ v. v.items ≡ []) }
+    ensures memory { IfOk result (λ v. len ≤ vec_capacity v) }
 {
-    match vec![in alloc; 0; len] {
+    match Vec::with_capacity(alloc, len) {
         Ok(octets) => Ok(octets),
         Err(_) => Err(NoMemory),
     }

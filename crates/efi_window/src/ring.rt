@@ -1,20 +1,43 @@
-//! A ring of bytes by place: a place stands at its number modulo the ring's length. Which places are kept, bits of
-//! words say.
-ghost use Rattle.std.specs.Prelude.{◌≡◌, ◌+◌, ◌-◌, ◌*◌, ◌%◌, ◌<◌, ◌≤◌, ◌++◌, ℕ, true, false, not, length, get_or, drop};
+//! A ring of bytes by place: a place stands at its number modulo the ring's room. The ring is as long as it was used. Which
+//! places are kept, bits of words say.
+ghost use Rattle.std.specs.Prelude.{◌≡◌, ◌+◌, ◌-◌, ◌*◌, ◌%◌, ◌<◌, ◌≤◌, ◌++◌, ℕ, true, false, not, length, get_or, drop, min, vec_len};
+ghost use Rattle.std.specs.Vec.{vec_capacity};
 ghost use Rattle.efi_window.specs.Kept.{is_kept, IsPlaced};
 
 use crate::bits::{mark, run_end};
 use crate::runs::put_run;
 
-/// Keeps bytes from a place on, in at most two runs. A byte that is kept there already stays.
-pub fn put(ring: &mut [u8], words: &mut [u64], place: u64, bytes: &[u8])
-    requires some { 0 < length ring.old }
-    requires fits { length bytes.now ≤ length ring.old }
-    requires words { length ring.old ≤ 64 * length words.old }
-    ensures { IsPlaced (length ring.old) place bytes.now ring.old words.old ring.new words.new }
+/// Makes a ring long enough for so many places from one on. It takes no memory: there is enough for all of the ring.
+pub fn reach(ring: &mut Vec<u8>, room: usize, place: u64, count: usize)
+    requires some { 0 < room }
+    requires most { vec_len ring.old ≤ room }
+    requires memory { room ≤ vec_capacity ring.old }
+    ensures enough { min (place % room + count) room ≤ vec_len ring.new }
+    ensures longer { vec_len ring.old ≤ vec_len ring.new }
+    ensures most { vec_len ring.new ≤ room }
+    ensures memory { room ≤ vec_capacity ring.new }
+    ensures same { (i : ℕ) → get_or ring.new.items i 0 ≡ get_or ring.old.items i 0 }
 {
-    let at = (place % ring.len() as u64) as usize;
-    let first = bytes.len().min(ring.len() - at);
+    let at = (place % room as u64) as usize;
+    let len = at + count.min(room - at);
+    while ring.len() < len {
+        let Ok(()) = ring.push(0) else {
+            return;
+        };
+    }
+}
+
+/// Keeps bytes from a place on, in at most two runs. A byte that is kept there already stays.
+pub fn put(ring: &mut [u8], words: &mut [u64], room: usize, place: u64, bytes: &[u8])
+    requires some { 0 < room }
+    requires fits { length bytes.now ≤ room }
+    requires most { length ring.old ≤ room }
+    requires enough { min (place % room + length bytes.now) room ≤ length ring.old }
+    requires words { room ≤ 64 * length words.old }
+    ensures { IsPlaced room place bytes.now ring.old words.old ring.new words.new }
+{
+    let at = (place % room as u64) as usize;
+    let first = bytes.len().min(room - at);
     put_run(ring, words, at, &bytes[..first]);
     put_run(ring, words, 0, &bytes[first..]);
 }
@@ -53,18 +76,19 @@ fn fill(out: &mut [u8], first: &[u8], second: &[u8])
 }
 
 /// Copies so many bytes from a place on to the front of a room.
-pub fn copy(ring: &[u8], place: u64, count: usize, out: &mut [u8])
-    requires fits { count ≤ length ring.now }
-    requires room { count ≤ length out.old }
+pub fn copy(ring: &[u8], room: usize, place: u64, count: usize, out: &mut [u8])
+    requires fits { count ≤ room }
+    requires enough { 0 < count → min (place % room + count) room ≤ length ring.now }
+    requires out { count ≤ length out.old }
     ensures len { length out.new ≡ length out.old }
-    ensures bytes { (i : ℕ) → i < count → get_or out.new i 0 ≡ get_or ring.now ((place + i) % length ring.now) 0 }
+    ensures bytes { (i : ℕ) → i < count → get_or out.new i 0 ≡ get_or ring.now ((place + i) % room) 0 }
     ensures rest { drop count out.new ≡ drop count out.old }
 {
     if count == 0 {
         return;
     }
-    let at = (place % ring.len() as u64) as usize;
-    let first = count.min(ring.len() - at);
+    let at = (place % room as u64) as usize;
+    let first = count.min(room - at);
     fill(out, &ring[at..at + first], &ring[..count - first]);
 }
 

@@ -120,8 +120,6 @@ fn move_some(recv: &mut Recv, room: &mut [u8], load: &mut Load) -> Result<usize,
     ensures carries { (most : ℕ) (board : Board) → Carries most board recv.old load.old → OnOk result (Carries most board recv.new load.new) }
     ensures numbers { (recv.new.irs ≡ recv.old.irs) × (recv.new.cap ≡ recv.old.cap) }
 {
-    // the load counts octets, and this bounds how many there are
-    let _accepted = recv.accepted();
     let count = recv.take(room);
     match load.feed(&room[..count]) {
         Ok(()) => Ok(count),

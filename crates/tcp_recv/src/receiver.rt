@@ -89,6 +89,7 @@ impl Recv {
             → Stands board (given ++ take result (untaken self.old)) self.new }
         ensures joined { (board : Board) → (given : List ℕ) → Stands board given self.old
             → front board.kept ≡ given ++ untaken self.old }
+        ensures bound { self.old.taken + length (untaken self.old) ≤ 2 ^ 62 }
     {
         self.window.take(room)
     }

@@ -19,7 +19,7 @@ returns-in-Ok-clause-carries c = λ most board h.
     let few : n ≤ length ready = omega (arith, c.take-count.ensures.count) in
     let moved : take n c.take-count.new.room ≡ take n ready = ap (take n) c.take-count.ensures.bytes ∙ take-room n ready c.args.room.now few in
     let fits : length h.given + length (take n c.take-count.new.room) ≤ 2 ^ 62 =
-    omega (arith, ap length moved, length-take-le n ready few, few, c.accepted-accepted.ensures.bound, c.accepted-accepted.ensures.count, h.stands.count) in
+    omega (arith, ap length moved, length-take-le n ready few, few, c.take-count.ensures.bound, h.stands.count) in
     record {
       given = h.given ++ take n ready;
       stands = c.take-count.ensures.stands board h.given h.stands;

@@ -40,6 +40,12 @@ run-stops words at run v h e =
     let b : (at + run) % 64 ≡ at % 64 + run = omega arith in
     rw k (rw b e)
 
+-- a word of which each bit is the same
+pub run-through : (words : List ℕ) (word i : ℕ) (v : Bool) → get_or words (i / 64) 0 ≡ word
+    → ((j : ℕ) → j < 64 → (bit_at word j == 1) ≡ v) → is_kept words i ≡ v
+unfolding is_kept
+run-through words word i v e f = rw e (f (i % 64) (omega arith))
+
 -- a word was written
 pub word-inside : (words : List ℕ) (at high word i : ℕ) (v : Bool) → at / 64 < length words → at ≤ i → i < at + (high - at % 64)
     → at % 64 < high → high ≤ 64 → ((j : ℕ) → at % 64 ≤ j → j < high → (bit_at word j == 1) ≡ v)

@@ -1,5 +1,5 @@
 //! Sets of numbers as bits of words: which indices of a ring hold a byte. The bytes stand elsewhere.
-ghost use Rattle.std.specs.Prelude.{◌≡◌, ◌+◌, ◌*◌, ◌/◌, ◌<◌, ◌≤◌, ◌==◌, ℕ, not, length};
+ghost use Rattle.std.specs.Prelude.{◌≡◌, ◌+◌, ◌*◌, ◌/◌, ◌<◌, ◌≤◌, ◌==◌, ℕ, not, length, get_or};
 ghost use Rattle.std.specs.Int.{bit_at};
 ghost use Rattle.efi_window.specs.Kept.{is_kept};
 
@@ -33,7 +33,33 @@ fn alike_from(word: u64, set: bool, from: usize) -> usize
     zeros_from(word, from)
 }
 
-/// Where the run of indices that are all set, or all clear, ends: from one index on, up to an end.
+/// A word of which each bit is set, or clear.
+fn whole_word(set: bool) -> u64
+    ensures { (i : ℕ) → i < 64 → (bit_at result i == 1) ≡ set }
+{
+    if set {
+        return u64::MAX;
+    }
+    0
+}
+
+/// The first word from one on, below an end, that isn't this one.
+fn words_end(words: &[u64], word: u64, from: usize, end: usize) -> usize
+    requires order { from ≤ end }
+    requires within { end ≤ length words.now }
+    ensures least { from ≤ result }
+    ensures most { result ≤ end }
+    ensures alike { (k : ℕ) → from ≤ k → k < result → get_or words.now k 0 ≡ word }
+{
+    let mut at = from;
+    while at < end && words[at] == word {
+        at += 1;
+    }
+    at
+}
+
+/// Where the run of indices that are all set, or all clear, ends: from one index on, up to an end. Words that are whole are
+/// passed over at once.
 pub fn run_end(words: &[u64], set: bool, from: usize, end: usize) -> usize
     requires order { from ≤ end }
     requires within { end ≤ 64 * length words.now }
@@ -52,7 +78,7 @@ pub fn run_end(words: &[u64], set: bool, from: usize, end: usize) -> usize
         if low + run < WORD {
             return at + run;
         }
-        at += run;
+        at = WORD * words_end(words, whole_word(set), (at + run) / WORD, end / WORD);
     }
     end
 }

@@ -1,19 +1,19 @@
 //! The words of the command line, and what they ask for.
 #![tactic(auto)]
 
-// The file that the capture goes to.
+// the file that the capture goes to
 mod capture;
-// What holds of the definitions.
+// what holds of the definitions
 mod laws;
-// Command lines.
+// command lines
 mod line;
-// Numbers and addresses in words.
+// numbers and addresses in words
 mod numbers;
-// The options of each command.
+// the options of each command
 mod options;
-// The program's arguments, as the crate that reads them wants them.
+// the program's arguments, as the crate that reads them wants them
 mod program;
-// What is asked for.
+// what is asked for
 mod task;
 #[cfg(test)]
 mod tests;

@@ -2,17 +2,17 @@
 //! aren't here.
 #![tactic(auto)]
 
-// Where the final head of a stream ends.
+// where the final head of a stream ends
 mod heads;
-// What is kept of a list up to a limit.
+// what is kept of a list up to a limit
 mod kept;
-// What holds of the definitions.
+// what holds of the definitions
 mod laws;
-// A response that comes in pieces.
+// a response that comes in pieces
 mod load;
-// The cases, and which of them is met.
+// the cases, and which of them is met
 mod met;
-// The body behind the final head.
+// the body behind the final head
 mod reading;
 
 pub use laws::met_is_one;

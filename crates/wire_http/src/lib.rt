@@ -1,39 +1,39 @@
 //! HTTP responses as a client reads them.
 #![tactic(auto)]
 
-// The body behind a final head, read in pieces.
+// the body behind a final head, read in pieces
 mod bodies;
-// The line in front of a chunk.
+// the line in front of a chunk
 mod chunk_line;
-// What the fields of a head say.
+// what the fields of a head say
 mod fields;
-// The head of a response.
+// the head of a response
 mod head;
-// Hosts: addresses and names.
+// hosts: addresses and names
 mod hosts;
-// What holds of the definitions.
+// what holds of the definitions
 mod laws;
-// The lines of a head that isn't whole yet.
+// the lines of a head that isn't whole yet
 mod lines;
-// The numbers of Content-Length.
+// the numbers of Content-Length
 mod lengths;
-// The request of a load.
+// the request of a load
 mod request;
-// Pieces of a body.
+// pieces of a body
 mod runs;
-// What is kept of a body between two octets.
+// what is kept of a body between two octets
 mod stage;
 #[cfg(test)]
 mod tests;
-// Texts without case, and without the blanks around them.
+// texts without case, and without the blanks around them
 mod text;
-// The trailer of a body in chunks.
+// the trailer of a body in chunks
 mod trailer;
-// Why a text is no URI of a load.
+// why a text is no URI of a load
 mod uri_fault;
 #[cfg(test)]
 mod uri_tests;
-// URIs of loads.
+// URIs of loads
 mod uris;
 
 pub use bodies::{Body, BodyState, Fed};

@@ -16,6 +16,10 @@ prefix_mask n = 2 ^ 32 - 2 ^ 32 / 2 ^ n
 abbrev pub is_mask : ℕ → Bool
 is_mask mask = mask == prefix_mask (count_ones mask)
 
+-- the route to every network, reached directly
+abbrev pub everywhere : Route
+everywhere = record { dest = record { 0 = 0 }; mask = 0; gate = record { 0 = 0 } }
+
 -- the mask is ones and then zeros, and the destination has no bits outside it
 abbrev pub is_good : Route → Bool
 is_good r = is_mask r.mask && bit_and r.dest.0 r.mask == r.dest.0

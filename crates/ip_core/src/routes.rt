@@ -25,6 +25,10 @@ pub struct Route {
 
 /// The route to every network, reached directly.
 impl Default for Route {
+    ghost use Rattle.ip_core.specs.Routing.{everywhere};
+
+    ghost is_default = { λ r. r ≡ everywhere };
+
     fn default() -> Route {
         Route {
             dest: Ip4(0),

@@ -58,8 +58,8 @@ pub fn extract<S: Source, K: Sink>(alloc: Global, task: ExtractTask, src: &mut S
     // When the other answers come.
     ensures source { result ≡ 4 → Rose (S.faults src.old) (S.faults src.new) }
     ensures sink { result ≡ 5 → Rose (K.faults out.old) (K.faults out.new) }
-    ensures source_count { S.faults src.new ≢ S.faults src.old → (result ≡ 4) ⊎ (result ≡ 6) }
-    ensures sink_count { K.faults out.new ≢ K.faults out.old → (result ≡ 5) ⊎ (result ≡ 6) }
+    ensures source_count { S.faults src.new ≢ S.faults src.old → result ≡ 4 }
+    ensures sink_count { K.faults out.new ≢ K.faults out.old → result ≡ 5 }
     ensures others { (result ≡ 0) ⊎ (result ≡ 1) ⊎ (result ≡ 3) ⊎ (result ≡ 4) ⊎ (result ≡ 5) ⊎ (result ≡ 6) ⊎ (result ≡ 7) }
 
     // What is written: a front of the text where a write failed or memory ran out, and nothing with the others.
@@ -88,7 +88,7 @@ fn write_text<K: Sink>(out: &mut K, text: &[u8], status: u8) -> u8
         × (K.faults out.new ≡ K.faults out.old)) }
     ensures front { AppendsFront (K.held out.old) (K.held out.new) text.now }
     ensures sink { (result ≡ 5) → (status ≢ 5) → Rose (K.faults out.old) (K.faults out.new) }
-    ensures sink_count { K.faults out.new ≢ K.faults out.old → (result ≡ 5) ⊎ (result ≡ 6) }
+    ensures sink_count { K.faults out.new ≢ K.faults out.old → result ≡ 5 }
 {
     match write_all(out, text) {
         Ok(()) => status,
@@ -103,7 +103,7 @@ fn write_otherwise<K: Sink>(out: &mut K, text: &[u8]) -> u8
         × (K.faults out.new ≡ K.faults out.old)) }
     ensures front { AppendsFront (K.held out.old) (K.held out.new) text.now }
     ensures sink { (result ≡ 5) → Rose (K.faults out.old) (K.faults out.new) }
-    ensures sink_count { K.faults out.new ≢ K.faults out.old → (result ≡ 5) ⊎ (result ≡ 6) }
+    ensures sink_count { K.faults out.new ≢ K.faults out.old → result ≡ 5 }
     ensures nothing { text.now ≡ [] → out.new ≡ out.old }
 {
     if text.is_empty() {

@@ -85,8 +85,8 @@ pub fn run<S: Source, K: Sink, P: Sink>(
     // When the other answers come.
     ensures source { result ≡ 4 → Rose (S.faults src.old) (S.faults src.new) }
     ensures sink { result ≡ 5 → Rose (K.faults out.old) (K.faults out.new) }
-    ensures source_count { S.faults src.new ≢ S.faults src.old → (result ≡ 4) ⊎ (result ≡ 6) }
-    ensures sink_count { K.faults out.new ≢ K.faults out.old → (result ≡ 5) ⊎ (result ≡ 6) }
+    ensures source_count { S.faults src.new ≢ S.faults src.old → result ≡ 4 }
+    ensures sink_count { K.faults out.new ≢ K.faults out.old → result ≡ 5 }
     ensures others { (result ≡ 0) ⊎ (result ≡ 1) ⊎ (result ≡ 2) ⊎ (result ≡ 3) ⊎ (result ≡ 4) ⊎ (result ≡ 5) ⊎ (result ≡ 6) ⊎ (result ≡ 7) ⊎ (result ≡ 8) }
 
     // What is written: a front of the text where a write failed or memory ran out, and nothing with the others.

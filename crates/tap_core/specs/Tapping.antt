@@ -63,6 +63,10 @@ StandsFor most records (Following l d) = IsFollowing most records l d
 StandsFor most records (Ended s) = IsEnded most records s
 StandsFor most records Broken = ⊥
 
+-- memory was refused at a record
+abbrev pub IsBroken : Tap → Type 0
+IsBroken tap = tap.stage ≡ Broken
+
 -- the tap has heard the records, with a buffer of so many octets
 pub record HasHeard (most : ℕ) (records : List Record) (tap : Tap) : Type 0 where
   pub most_is : tap.most ≡ most

@@ -1,8 +1,10 @@
 //! How far a tap is: which records it has heard, and what it keeps of them.
-ghost use Rattle.std.specs.Prelude.{◌≡◌, ◌∷◌, ◌++◌, [], ℕ, List, IfOk, OnOk};
+ghost use Rattle.std.specs.Prelude.{◌≡◌, ◌∷◌, ◌++◌, [], ℕ, List, IfOk, IsErr, OnOk};
 ghost use Rattle.efi_base.specs.declared.plain.Record.{Record};
 ghost use Rattle.tap_core.specs.Tapping.{IsAnswering, IsEnded, IsFollowing, IsWaiting, StandsFor};
 ghost use Rattle.tap_core.specs.Watching.{IsSeen};
+ghost use Rattle.tap_core.specs.declared.ends.End.TheVariants.{NoConnection};
+ghost use Rattle.tap_core.specs.declared.stages.Stage.TheVariants.{Broken};
 
 use crate::download::Download;
 use crate::ends::End;
@@ -48,7 +50,8 @@ pub fn first_stage(alloc: Global) -> Result<Stage, NoMemory>
 
 /// The stage after one record more.
 pub fn next_stage(alloc: Global, most: u32, stage: Stage, record: Record) -> Result<Stage, NoMemory>
-    ensures { (records : List Record) → StandsFor most records stage → IfOk result (StandsFor most (records ++ «record» ∷ [])) }
+    ensures stands { (records : List Record) → StandsFor most records stage → IfOk result (StandsFor most (records ++ «record» ∷ [])) }
+    ensures broken { stage ≡ Broken → IsErr result }
 {
     match stage {
         Stage::Opening(waiting) => hear_first(alloc, waiting, record),
@@ -118,7 +121,8 @@ fn hear_more(listener: Listener, download: Download, record: &Record) -> Result<
 
 /// What is seen of the records, where no more come.
 pub fn seen_at(alloc: Global, stage: Stage) -> Seen
-    ensures { (most : ℕ) (records : List Record) → StandsFor most records stage → IsSeen most records result }
+    ensures seen { (most : ℕ) (records : List Record) → StandsFor most records stage → IsSeen most records result }
+    ensures broken { stage ≡ Broken → result.shown.end ≡ NoConnection }
 {
     match stage {
         Stage::Opening(waiting) => Seen {

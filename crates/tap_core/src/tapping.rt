@@ -1,8 +1,9 @@
 //! A tap on the station's link: it hears the records of a capture one after the other, and tells at the end what they show
 //! of their first connection. It keeps no list of them once a segment asks for a connection.
-ghost use Rattle.std.specs.Prelude.{◌∷◌, ◌++◌, [], ℕ, List, IfOk, OnOk};
+ghost use Rattle.std.specs.Prelude.{◌≡◌, ◌∷◌, ◌++◌, [], ℕ, List, IfOk, IsErr, OnErr, OnOk};
 ghost use Rattle.efi_base.specs.declared.plain.Record.{Record};
-ghost use Rattle.tap_core.specs.Tapping.{HasHeard};
+ghost use Rattle.tap_core.specs.declared.ends.End.TheVariants.{NoConnection};
+ghost use Rattle.tap_core.specs.Tapping.{HasHeard, IsBroken};
 ghost use Rattle.tap_core.specs.Watching.{IsSeen};
 
 use crate::passive::Seen;
@@ -31,17 +32,21 @@ impl Tap {
     /// Hears the next record. Records behind the download's end change nothing. Once memory was refused, it is at each record,
     /// and so is a record that 64 bits no longer count.
     pub fn hear(&mut self, record: Record) -> Result<(), NoMemory>
-        ensures { (most : ℕ) (records : List Record) → HasHeard most records self.old
+        ensures heard { (most : ℕ) (records : List Record) → HasHeard most records self.old
             → OnOk result (HasHeard most (records ++ «record» ∷ []) self.new) }
+        ensures refused { OnErr result (IsBroken self.new) }
+        ensures stays { IsBroken self.old → IsErr result }
     {
         let stage = mem::replace(&mut self.stage, Stage::Broken);
         self.stage = next_stage(self.alloc, self.most, stage, record)?;
         Ok(())
     }
 
-    /// What the records show, and the body of the response where it is whole.
+    /// What the records show, and the body of the response as far as it came and fits the buffer. Once memory was refused, nothing
+    /// is shown of a connection.
     pub fn finish(self) -> Seen
-        ensures { (most : ℕ) (records : List Record) → HasHeard most records self → IsSeen most records result }
+        ensures seen { (most : ℕ) (records : List Record) → HasHeard most records self → IsSeen most records result }
+        ensures broken { IsBroken self → result.shown.end ≡ NoConnection }
     {
         let Tap { alloc, stage, .. } = self;
         seen_at(alloc, stage)

@@ -7,7 +7,7 @@ loop-record-preserved c most fed given read heard =
     let before = c.loop-record.invariant most fed given read heard in (
       before.0 ++ c.in-Some.record ∷ [],
       c.in-Some.ensures.some.1 fed before.0 before.1,
-      c.in-Ok.ensures most before.0 before.2,
+      c.in-Ok.ensures.heard most before.0 before.2,
     )
 
 pub returns : goal.returns

@@ -11,5 +11,6 @@ returns c = λ most irs board upto f counted.
     record {
       tells = subst (λ n. Tells c.args.end o n (is_over board) upto c.shown_with.result) (c.accepted.ensures most irs board f)
           (subst (λ b. Tells c.args.end o c.accepted.result b upto c.shown_with.result) (c.ended.ensures most irs board f) (c.shown_with.ensures upto counted));
-      body = λ n e body whole le. c.into_body.ensures most irs board f body whole le;
+      body = λ n e body whole le. c.into_body.ensures.whole most irs board f body whole le;
+      so_far = λ octets so_far. c.into_body.ensures.so_far most irs board f octets so_far;
     }

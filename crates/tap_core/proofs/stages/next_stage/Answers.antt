@@ -4,8 +4,8 @@ use Rattle.tap_core.specs.Tapping.{StandsFor}
 use Rattle.tap_core.proofs.Tapped.{ended-next}
 use Rattle.tap_core.proofs.stages.next_stage.Goals as goal
 
-pub returns-in-Opening : goal.returns-in-Opening
-returns-in-Opening c = λ records st. c.hear_first.ensures c.args.most records (subst (StandsFor c.args.most records) c.in-Opening.is st)
+pub returns-in-Opening-clause-stands : goal.returns-in-Opening-clause-stands
+returns-in-Opening-clause-stands c = λ records st. c.hear_first.ensures c.args.most records (subst (StandsFor c.args.most records) c.in-Opening.is st)
 
-pub returns-in-Ended : goal.returns-in-Ended
-returns-in-Ended c = λ records st. ended-next c.args.most records c.args.«record» c.in-Ended.seen (subst (StandsFor c.args.most records) c.in-Ended.is st)
+pub returns-in-Ended-clause-stands : goal.returns-in-Ended-clause-stands
+returns-in-Ended-clause-stands c = λ records st. ended-next c.args.most records c.args.«record» c.in-Ended.seen (subst (StandsFor c.args.most records) c.in-Ended.is st)

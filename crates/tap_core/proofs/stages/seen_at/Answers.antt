@@ -1,5 +1,6 @@
 -- What is seen at each stage.
 use Rattle.std.proofs.Common.{◌∙◌, None, false, subst, rules}
+use Rattle.load_core.proofs.HeadRuns.{nothing-no}
 use Rattle.tap_core.specs.Connections.{board_after}
 use Rattle.tap_core.specs.declared.ends.End.TheVariants.{NoConnection}
 use Rattle.tap_core.specs.Seen.{syn_seen}
@@ -8,23 +9,23 @@ use Rattle.tap_core.specs.Tapping.{StandsFor}
 use Rattle.tap_core.proofs.Tapped.{seen-unopened, seen-unanswered, seen-late, seen-end}
 use Rattle.tap_core.proofs.stages.seen_at.Goals as goal
 
-pub returns-in-Opening : goal.returns-in-Opening
-returns-in-Opening c = λ most records st.
+pub returns-in-Opening-clause-seen : goal.returns-in-Opening-clause-seen
+returns-in-Opening-clause-seen c = λ most records st.
     let w = subst (StandsFor most records) c.in-Opening.is st in
     seen-unopened most records _ w.none
-    (record { tells = subst (λ l. Tells NoConnection None 0 false l c.shown_without.result) (c.deref.ensures.value ∙ w.kept) c.shown_without.ensures; body = λ n e. search rules })
+    (record { tells = subst (λ l. Tells NoConnection None 0 false l c.shown_without.result) (c.deref.ensures.value ∙ w.kept) c.shown_without.ensures; body = λ n e. search rules; so_far = λ octets so_far. absurd (nothing-no so_far.0 so_far.1 so_far.2 so_far.3) })
 
-pub returns-in-Answering : goal.returns-in-Answering
-returns-in-Answering c = λ most records st.
+pub returns-in-Answering-clause-seen : goal.returns-in-Answering-clause-seen
+returns-in-Answering-clause-seen c = λ most records st.
     let a = subst (StandsFor most records) c.in-Answering.is st in
     seen-unanswered most records (syn_seen c.in-Answering.listener.syn) a.at _ a.is_first a.none
-    (record { tells = c.shown_with.ensures records a.listens.counts; body = λ n e. search rules })
+    (record { tells = c.shown_with.ensures records a.listens.counts; body = λ n e. search rules; so_far = λ octets so_far. absurd (nothing-no so_far.0 so_far.1 so_far.2 so_far.3) })
 
-pub returns-in-Following : goal.returns-in-Following
-returns-in-Following c = λ most records st.
+pub returns-in-Following-clause-seen : goal.returns-in-Following-clause-seen
+returns-in-Following-clause-seen c = λ most records st.
     let f = subst (StandsFor most records) c.in-Following.is st in
     seen-late most records (syn_seen c.in-Following.listener.syn) f.irs f.place f.heard _ f.connection f.nothing
     (c.seen_of.ensures most f.irs (board_after f.irs f.heard) records f.follows f.listens.counts)
 
-pub returns-in-Ended : goal.returns-in-Ended
-returns-in-Ended c = λ most records st. seen-end most records c.in-Ended.seen (subst (StandsFor most records) c.in-Ended.is st)
+pub returns-in-Ended-clause-seen : goal.returns-in-Ended-clause-seen
+returns-in-Ended-clause-seen c = λ most records st. seen-end most records c.in-Ended.seen (subst (StandsFor most records) c.in-Ended.is st)

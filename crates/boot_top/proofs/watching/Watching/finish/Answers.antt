@@ -5,7 +5,7 @@ use Rattle.boot_top.proofs.watching.Watching.finish.Goals as goal
 
 pub returns-in-Ok : goal.returns-in-Ok
 returns-in-Ok c most fed watched =
-    heard-whole most fed _ _ _ watched c.in-Ok.ensures.whole.0 c.in-Ok.ensures.whole.1 c.finish-in-Ok.ensures
+    heard-whole most fed _ _ _ watched c.in-Ok.ensures.whole.0 c.in-Ok.ensures.whole.1 c.finish-in-Ok.ensures.seen
 
 pub returns-in-Err-BadAt : goal.returns-in-Err-BadAt
 returns-in-Err-BadAt c most fed watched =

@@ -42,6 +42,9 @@ struct Gives<'a> {
     counts: &'a str,
 }
 
+/// The words with which the lines of a row begin.
+const LINES: &str = "stream station peer words to send gives refuses";
+
 /// The stream of a plain response: a head of 39 octets, and an image of 10.
 const STREAM: &str = r"HTTP/1.1 200 OK\r\nContent-Length: 10\r\n\r\n0123456789";
 
@@ -71,33 +74,38 @@ fn check_row<R: Abort + AllocGlobal>(rt: &R, text: &str) -> Result<(), Fail> {
         name: name.trim(),
         lines,
     };
-    assert!(rt; are_known(lines), "{name}");
+    assert!(rt; are_known(lines, LINES), "{name}");
     match line_of(lines, "refuses") {
         Some(line) => check_refusal(rt, row, line),
         None => check_download(rt, row),
     }
 }
 
-fn are_known(lines: &str) -> bool {
+/// Whether each line begins with one of these words, or is a note.
+pub(crate) fn are_known(lines: &str, words: &str) -> bool {
     for line in lines.lines() {
         let (word, _) = word_of(line.trim());
-        if !is_known(word) {
+        if !is_known(word, words) {
             return false;
         }
     }
     true
 }
 
-fn is_known(word: &str) -> bool {
-    match word {
-        "" | "//" | "stream" | "station" | "peer" | "words" | "to" | "send" | "gives" | "refuses" =>
-            true,
-        _ => false,
+fn is_known(word: &str, words: &str) -> bool {
+    if word.is_empty() || word == "//" {
+        return true;
     }
+    for known in words.split_whitespace() {
+        if known == word {
+            return true;
+        }
+    }
+    false
 }
 
 /// What stands behind a word in the first line that begins with it.
-fn line_of<'a>(lines: &'a str, word: &str) -> Option<&'a str> {
+pub(crate) fn line_of<'a>(lines: &'a str, word: &str) -> Option<&'a str> {
     for line in lines.lines() {
         let (first, rest) = word_of(line.trim());
         if first == word {
@@ -108,7 +116,7 @@ fn line_of<'a>(lines: &'a str, word: &str) -> Option<&'a str> {
 }
 
 /// The same, or this where there is no such line.
-fn line_or<'a>(lines: &'a str, word: &str, other: &'a str) -> &'a str {
+pub(crate) fn line_or<'a>(lines: &'a str, word: &str, other: &'a str) -> &'a str {
     match line_of(lines, word) {
         Some(line) => line,
         None => other,
@@ -185,7 +193,9 @@ fn check_answer<R: Abort + AllocGlobal>(
 ) -> Result<(), Fail> {
     let capture = capture_of(rt.alloc(), row.lines, form)?;
     let words = words_of(rt.alloc(), line_or(row.lines, "words", "extract"), emit)?;
-    let (status, same) = answer_of(rt.alloc(), &words, capture, text);
+    let src = MemSource::new(capture, Vec::new(rt.alloc()));
+    let out = MemSink::new(rt.alloc(), Vec::new(rt.alloc()));
+    let (status, same) = answer_of(rt.alloc(), &words, src, out, text);
     let name = row.name;
     assert_eq!(rt; status, wanted, "{name} {emit}");
     assert!(rt; same, "{name} {emit}");
@@ -193,9 +203,13 @@ fn check_answer<R: Abort + AllocGlobal>(
 }
 
 /// The status, and whether just this is written.
-fn answer_of(alloc: Global, words: &Vec<String>, capture: Vec<u8>, text: &[u8]) -> (u8, bool) {
-    let mut src = MemSource::new(capture, Vec::new(alloc));
-    let mut out = MemSink::new(alloc, Vec::new(alloc));
+pub(crate) fn answer_of(
+    alloc: Global,
+    words: &Vec<String>,
+    mut src: MemSource,
+    mut out: MemSink,
+    text: &[u8],
+) -> (u8, bool) {
     let status = run(alloc, words, &mut src, &mut out, &mut DropSink);
     (status, out.octets() == text)
 }

@@ -1,7 +1,18 @@
-//! What the top call answers over memory sources and sinks. The captures were made by another program.
-use crate::{
-    BAD_INPUT, BAD_WORDS, ENDED_OTHERWISE, NOT_BUILT, SINK_FAILED, SOURCE_FAILED, SUCCESS, run,
-};
+//! What the top call answers over memory sources and sinks. The captures were made by another program. The rows are written as
+//! those of the tables of captures, with these lines:
+//!
+//! ```text
+//! words the command line, where it isn't `extract`
+//! capture which it is, where it isn't `first`
+//! length how many of its octets are there, where it isn't 273
+//! order whatever, where the capture's magic number is that of the other byte order
+//! read-fails the number of the first read that fails
+//! write-fails the number of the first write that fails
+//! gives the status | what is written
+//! ```
+use crate::extract_tests::{answer_of, are_known, line_of, line_or};
+use crate::text_tests::{field_of, number_of, octets_of};
+use crate::{BAD_WORDS, NOT_BUILT, run};
 use efi_base::{DropSink, MemSink, MemSource};
 use std::alloc::Global;
 use std::process::Abort;
@@ -51,32 +62,60 @@ const MISPLACED: &str = "\
     08004500004f00020000400666a50a0000010a0000020050c001000003ea000100015018ffffe7650000485454502f31\
     2e3120323030204f4b0d0a436f6e74656e742d4c656e6774683a20310d0a0d0a41";
 
-/// A run of `extract`: its words, the capture in hexadecimal, how many of its octets are there, whether its magic number is that of
-/// the other byte order, the numbers of the failing first read and write, and what is wanted.
-#[derive(Clone, Copy)]
-struct Case {
-    name: &'static str,
-    words: &'static str,
-    capture: &'static str,
-    length: usize,
-    other_order: bool,
-    failing_read: u64,
-    failing_write: u64,
-    status: u8,
-    output: &'static str,
-}
+/// The words with which the lines of a row begin.
+const LINES: &str = "words capture length order read-fails write-fails gives";
 
-const PLAIN: Case = Case {
-    name: "a plain capture",
-    words: "extract",
-    capture: FIRST,
-    length: 273,
-    other_order: false,
-    failing_read: 0,
-    failing_write: 0,
-    status: SUCCESS,
-    output: "A",
-};
+/// Runs of `extract`.
+const RUNS: &str = r"
+# a plain capture
+gives 0 | A
+# the magic number of the other byte order
+order big
+gives 3 | bad input at 0\n
+# no response
+length 164
+gives 1 |
+# an incomplete record
+length 272
+gives 3 | bad input at 164\n
+# an incomplete head of a record
+length 30
+gives 3 | bad input at 24\n
+# the report
+words extract --emit report
+gives 0 | efiboot report 1\nlease -\nuri -\npeer 10.0.0.1:80\naccepted 39 open\noutcome success 1\ntick 4 sent 1 heard 2\n
+# the report of a capture without records
+words extract --emit=report
+length 24
+gives 1 | efiboot report 1\nlease -\nuri -\npeer -\naccepted 0 open\noutcome no-connection\ntick 0 sent 0 heard 0\n
+# the first write of a report fails
+words extract --emit report
+length 24
+write-fails 1
+gives 5 |
+# a buffer that just holds the image
+words extract --buffer=1 --emit image
+gives 0 | A
+# a buffer that is too short
+words extract --buffer 0
+gives 1 |
+# the first write fails
+write-fails 1
+gives 5 |
+# the first read fails
+read-fails 1
+gives 4 |
+# numbers that pass 2^32
+capture wrap
+length 653
+gives 0 | ABCDEFGHIJKLMNOPQRSTUVWXYZ[\\]^
+# another status
+capture not-found
+gives 1 |
+# a segment ahead of its place
+capture misplaced
+gives 1 |
+";
 
 fn digit(code: u8) -> u8 {
     match code {
@@ -108,136 +147,94 @@ fn words_of(alloc: Global, text: &str) -> Result<Vec<String>, Fail> {
     Ok(words)
 }
 
-fn check<R: Abort + AllocGlobal>(rt: &R, case: &Case) -> Result<(), Fail> {
-    let alloc = rt.alloc();
-    let mut octets = from_hex(alloc, case.capture)?;
-    octets.truncate(case.length);
-    if case.other_order && octets.len() >= 4 {
+/// The octets of a run's capture.
+fn capture_of(alloc: Global, lines: &str) -> Result<Vec<u8>, Fail> {
+    let Some(text) = text_of(line_or(lines, "capture", "first")) else {
+        return Err(Fail::new("a capture that isn't known"));
+    };
+    let Some(length) = number_of(line_or(lines, "length", "273")) else {
+        return Err(Fail::new("a length of a capture"));
+    };
+    let mut octets = from_hex(alloc, text)?;
+    octets.truncate(length as usize);
+    if line_of(lines, "order").is_some() {
+        turn_order(&mut octets);
+    }
+    Ok(octets)
+}
+
+fn text_of(name: &str) -> Option<&'static str> {
+    match name {
+        "first" => Some(FIRST),
+        "wrap" => Some(WRAP),
+        "not-found" => Some(NOT_FOUND),
+        "misplaced" => Some(MISPLACED),
+        _ => None,
+    }
+}
+
+/// Puts the magic number of the other byte order, where there is one.
+fn turn_order(octets: &mut [u8]) {
+    if octets.len() >= 4 {
         octets[..4].copy_from_slice(&[0xA1, 0xB2, 0xC3, 0xD4]);
     }
-    let words = words_of(alloc, case.words)?;
-    let mut src = MemSource::new(octets, vec![in alloc; case.failing_read]?);
-    let mut out = MemSink::new(alloc, vec![in alloc; case.failing_write]?);
-    let mut cap = DropSink;
-    let status = run(alloc, &words, &mut src, &mut out, &mut cap);
-    let name = case.name;
-    assert_eq!(rt; status, case.status, "{name}");
-    assert_eq!(rt; out.octets(), case.output.as_bytes(), "{name}");
+}
+
+/// The number of the failing call, or 0, which is none.
+fn failing_of(alloc: Global, lines: &str, word: &str) -> Result<Vec<u64>, Fail> {
+    let Some(number) = number_of(line_or(lines, word, "0")) else {
+        return Err(Fail::new("a number of a call"));
+    };
+    Ok(vec![in alloc; u64::from(number)]?)
+}
+
+fn check<R: Abort + AllocGlobal>(rt: &R, name: &str, lines: &str) -> Result<(), Fail> {
+    let alloc = rt.alloc();
+    let Some((wanted, output)) = field_of(line_or(lines, "gives", "")) else {
+        return Err(Fail::new(name));
+    };
+    let output = octets_of(alloc, output)?;
+    let words = words_of(alloc, line_or(lines, "words", "extract"))?;
+    let src = MemSource::new(
+        capture_of(alloc, lines)?,
+        failing_of(alloc, lines, "read-fails")?,
+    );
+    let out = MemSink::new(alloc, failing_of(alloc, lines, "write-fails")?);
+    let (status, same) = answer_of(alloc, &words, src, out, &output);
+    assert_eq!(rt; Some(u32::from(status)), number_of(wanted), "{name}");
+    assert!(rt; same, "{name}");
+    Ok(())
+}
+
+fn check_runs<R: Abort + AllocGlobal>(rt: &R, table: &str, count: usize) -> Result<(), Fail> {
+    let mut runs = 0usize;
+    for text in table.trim().split('#') {
+        if let Some((name, lines)) = text.split_once('\n') {
+            assert!(rt; are_known(lines, LINES), "{name}");
+            check(rt, name, lines)?;
+            runs = runs.wrapping_add(1);
+        }
+    }
+    assert_eq!(rt; runs, count, "runs of the table");
     Ok(())
 }
 
 #[test]
 fn answers_by_the_table(rt: HostRuntime) -> Result<(), Fail> {
-    let cases = [
-        PLAIN,
-        Case {
-            name: "the magic number of the other byte order",
-            other_order: true,
-            status: BAD_INPUT,
-            output: "bad input at 0\n",
-            ..PLAIN
-        },
-        Case {
-            name: "no response",
-            length: 164,
-            status: ENDED_OTHERWISE,
-            output: "",
-            ..PLAIN
-        },
-        Case {
-            name: "an incomplete record",
-            length: 272,
-            status: BAD_INPUT,
-            output: "bad input at 164\n",
-            ..PLAIN
-        },
-        Case {
-            name: "an incomplete head of a record",
-            length: 30,
-            status: BAD_INPUT,
-            output: "bad input at 24\n",
-            ..PLAIN
-        },
-        Case {
-            name: "the report",
-            words: "extract --emit report",
-            output: "efiboot report 1\nlease -\nuri -\npeer 10.0.0.1:80\naccepted 39 open\noutcome success 1\ntick 4 sent 1 heard 2\n",
-            ..PLAIN
-        },
-        Case {
-            name: "the report of a capture without records",
-            words: "extract --emit=report",
-            length: 24,
-            status: ENDED_OTHERWISE,
-            output: "efiboot report 1\nlease -\nuri -\npeer -\naccepted 0 open\noutcome no-connection\ntick 0 sent 0 heard 0\n",
-            ..PLAIN
-        },
-        Case {
-            name: "the first write of a report fails",
-            words: "extract --emit report",
-            length: 24,
-            failing_write: 1,
-            status: SINK_FAILED,
-            output: "",
-            ..PLAIN
-        },
-        Case {
-            name: "a buffer that just holds the image",
-            words: "extract --buffer=1 --emit image",
-            ..PLAIN
-        },
-        Case {
-            name: "a buffer that is too short",
-            words: "extract --buffer 0",
-            status: ENDED_OTHERWISE,
-            output: "",
-            ..PLAIN
-        },
-        Case {
-            name: "the first write fails",
-            failing_write: 1,
-            status: SINK_FAILED,
-            output: "",
-            ..PLAIN
-        },
-        Case {
-            name: "the first read fails",
-            failing_read: 1,
-            status: SOURCE_FAILED,
-            output: "",
-            ..PLAIN
-        },
-        Case {
-            name: "numbers that pass 2^32",
-            capture: WRAP,
-            length: 653,
-            output: "ABCDEFGHIJKLMNOPQRSTUVWXYZ[\\]^",
-            ..PLAIN
-        },
-        Case {
-            name: "another status",
-            capture: NOT_FOUND,
-            status: ENDED_OTHERWISE,
-            output: "",
-            ..PLAIN
-        },
-        Case {
-            name: "a segment ahead of its place",
-            capture: MISPLACED,
-            status: ENDED_OTHERWISE,
-            output: "",
-            ..PLAIN
-        },
-    ];
-    for case in &cases {
-        check(&rt, case)?;
-    }
-    Ok(())
+    check_runs(&rt, RUNS, 15)
+}
+
+/// What is left of the input and what is written, and the status.
+fn answer_to_words(alloc: Global, text: &str) -> Result<(u8, usize, usize), Fail> {
+    let words = words_of(alloc, text)?;
+    let mut src = MemSource::new(from_hex(alloc, FIRST)?, Vec::new(alloc));
+    let mut out = MemSink::new(alloc, Vec::new(alloc));
+    let status = run(alloc, &words, &mut src, &mut out, &mut DropSink);
+    Ok((status, src.octets().len(), out.octets().len()))
 }
 
 #[test]
 fn reads_nothing_for_other_words(rt: HostRuntime) -> Result<(), Fail> {
-    let alloc = rt.alloc();
     for (text, want) in [
         ("", BAD_WORDS),
         ("extrac", BAD_WORDS),
@@ -246,13 +243,10 @@ fn reads_nothing_for_other_words(rt: HostRuntime) -> Result<(), Fail> {
         ("boot --capture x", NOT_BUILT),
         ("make --seed 1", NOT_BUILT),
     ] {
-        let words = words_of(alloc, text)?;
-        let mut src = MemSource::new(from_hex(alloc, FIRST)?, Vec::new(alloc));
-        let mut out = MemSink::new(alloc, Vec::new(alloc));
-        let status = run(alloc, &words, &mut src, &mut out, &mut DropSink);
+        let (status, left, written) = answer_to_words(rt.alloc(), text)?;
         assert_eq!(rt; status, want, "{text}");
-        assert_eq!(rt; src.octets().len(), 273, "{text}");
-        assert!(rt; out.octets().is_empty(), "{text}");
+        assert_eq!(rt; left, 273, "{text}");
+        assert_eq!(rt; written, 0, "{text}");
     }
     Ok(())
 }

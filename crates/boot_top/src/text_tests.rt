@@ -36,7 +36,7 @@ pub(crate) fn pair_of(text: &str) -> Option<(u32, u32)> {
     Some((first, number_of(rest)?))
 }
 
-/// The octets of a text, in which `\r`, `\n` and `\s` stand for the two octets that end a line, and for a blank.
+/// The octets of a text, in which `\r`, `\n` and `\s` stand for the two octets that end a line and for a blank, and `\\` for `\`.
 pub(crate) fn octets_of(alloc: Global, text: &str) -> Result<Vec<u8>, Fail> {
     let mut octets = Vec::new(alloc);
     let mut escaped = false;
@@ -66,6 +66,7 @@ fn meant_by(octet: u8, escaped: bool) -> Option<u8> {
         b'r' => Some(b'\r'),
         b'n' => Some(b'\n'),
         b's' => Some(b' '),
+        b'\\' => Some(octet),
         _ => None,
     }
 }

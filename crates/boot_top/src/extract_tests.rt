@@ -74,7 +74,9 @@ fn check_row<R: Abort + AllocGlobal>(rt: &R, text: &str) -> Result<(), Fail> {
         name: name.trim(),
         lines,
     };
-    assert!(rt; are_known(lines, LINES), "{name}");
+    if !are_known(lines, LINES) {
+        return Err(Fail::new(name));
+    }
     match line_of(lines, "refuses") {
         Some(line) => check_refusal(rt, row, line),
         None => check_download(rt, row),
@@ -191,15 +193,37 @@ fn check_answer<R: Abort + AllocGlobal>(
     wanted: u8,
     text: &[u8],
 ) -> Result<(), Fail> {
-    let capture = capture_of(rt.alloc(), row.lines, form)?;
-    let words = words_of(rt.alloc(), line_or(row.lines, "words", "extract"), emit)?;
-    let src = MemSource::new(capture, Vec::new(rt.alloc()));
-    let out = MemSink::new(rt.alloc(), Vec::new(rt.alloc()));
-    let (status, same) = answer_of(rt.alloc(), &words, src, out, text);
-    let name = row.name;
+    let told = answer_to_row(rt.alloc(), row.lines, form, emit, text)?;
+    check_told(rt, row.name, emit, told, wanted);
+    Ok(())
+}
+
+/// Tests that the status is the one that is wanted, and that just what is wanted is written.
+pub(crate) fn check_told<R: Abort + AllocGlobal>(
+    rt: &R,
+    name: &str,
+    emit: &str,
+    told: (u8, bool),
+    wanted: u8,
+) {
+    let (status, same) = told;
     assert_eq!(rt; status, wanted, "{name} {emit}");
     assert!(rt; same, "{name} {emit}");
-    Ok(())
+}
+
+/// The status that a row's capture gives, and whether just this is written.
+fn answer_to_row(
+    alloc: Global,
+    lines: &str,
+    form: Form,
+    emit: &str,
+    text: &[u8],
+) -> Result<(u8, bool), Fail> {
+    let capture = capture_of(alloc, lines, form)?;
+    let words = words_of(alloc, line_or(lines, "words", "extract"), emit)?;
+    let src = MemSource::new(capture, Vec::new(alloc));
+    let out = MemSink::new(alloc, Vec::new(alloc));
+    Ok(answer_of(alloc, &words, src, out, text))
 }
 
 /// The status, and whether just this is written.
@@ -210,8 +234,18 @@ pub(crate) fn answer_of(
     mut out: MemSink,
     text: &[u8],
 ) -> (u8, bool) {
-    let status = run(alloc, words, &mut src, &mut out, &mut DropSink);
+    let status = run_over(alloc, words, &mut src, &mut out);
     (status, out.octets() == text)
+}
+
+/// The top call over memory, apart, since its contract would stand in the proof of what is done beside it.
+pub(crate) fn run_over(
+    alloc: Global,
+    words: &Vec<String>,
+    src: &mut MemSource,
+    out: &mut MemSink,
+) -> u8 {
+    run(alloc, words, src, out, &mut DropSink)
 }
 
 /// The capture of a row.

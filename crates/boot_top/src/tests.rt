@@ -10,10 +10,10 @@
 //! write-fails the number of the first write that fails
 //! gives the status | what is written
 //! ```
-use crate::extract_tests::{answer_of, are_known, line_of, line_or};
+use crate::extract_tests::{answer_of, are_known, check_told, line_of, line_or, run_over};
 use crate::text_tests::{field_of, number_of, octets_of};
-use crate::{BAD_WORDS, NOT_BUILT, run};
-use efi_base::{DropSink, MemSink, MemSource};
+use crate::{BAD_WORDS, NOT_BUILT};
+use efi_base::{MemSink, MemSource};
 use std::alloc::Global;
 use std::process::Abort;
 use std::test::Fail;
@@ -188,11 +188,8 @@ fn failing_of(alloc: Global, lines: &str, word: &str) -> Result<Vec<u64>, Fail> 
     Ok(vec![in alloc; u64::from(number)]?)
 }
 
-fn check<R: Abort + AllocGlobal>(rt: &R, name: &str, lines: &str) -> Result<(), Fail> {
-    let alloc = rt.alloc();
-    let Some((wanted, output)) = field_of(line_or(lines, "gives", "")) else {
-        return Err(Fail::new(name));
-    };
+/// The status of a run, and whether just this is written.
+fn answer_to_run(alloc: Global, lines: &str, output: &str) -> Result<(u8, bool), Fail> {
     let output = octets_of(alloc, output)?;
     let words = words_of(alloc, line_or(lines, "words", "extract"))?;
     let src = MemSource::new(
@@ -200,20 +197,35 @@ fn check<R: Abort + AllocGlobal>(rt: &R, name: &str, lines: &str) -> Result<(), 
         failing_of(alloc, lines, "read-fails")?,
     );
     let out = MemSink::new(alloc, failing_of(alloc, lines, "write-fails")?);
-    let (status, same) = answer_of(alloc, &words, src, out, &output);
-    assert_eq!(rt; Some(u32::from(status)), number_of(wanted), "{name}");
-    assert!(rt; same, "{name}");
+    Ok(answer_of(alloc, &words, src, out, &output))
+}
+
+fn check<R: Abort + AllocGlobal>(rt: &R, text: &str) -> Result<(), Fail> {
+    let Some((name, lines)) = text.split_once('\n') else {
+        return Err(Fail::new("a run without lines"));
+    };
+    let Some((wanted, output)) = field_of(line_or(lines, "gives", "")) else {
+        return Err(Fail::new(name));
+    };
+    let Ok(wanted) = wanted.parse::<u8>() else {
+        return Err(Fail::new(name));
+    };
+    if !are_known(lines, LINES) {
+        return Err(Fail::new(name));
+    }
+    let told = answer_to_run(rt.alloc(), lines, output)?;
+    check_told(rt, name, "", told, wanted);
     Ok(())
 }
 
 fn check_runs<R: Abort + AllocGlobal>(rt: &R, table: &str, count: usize) -> Result<(), Fail> {
+    let Some((_, table)) = table.split_once('#') else {
+        return Err(Fail::new("a table without a run"));
+    };
     let mut runs = 0usize;
-    for text in table.trim().split('#') {
-        if let Some((name, lines)) = text.split_once('\n') {
-            assert!(rt; are_known(lines, LINES), "{name}");
-            check(rt, name, lines)?;
-            runs = runs.wrapping_add(1);
-        }
+    for text in table.split('#') {
+        check(rt, text)?;
+        runs = runs.wrapping_add(1);
     }
     assert_eq!(rt; runs, count, "runs of the table");
     Ok(())
@@ -229,7 +241,7 @@ fn answer_to_words(alloc: Global, text: &str) -> Result<(u8, usize, usize), Fail
     let words = words_of(alloc, text)?;
     let mut src = MemSource::new(from_hex(alloc, FIRST)?, Vec::new(alloc));
     let mut out = MemSink::new(alloc, Vec::new(alloc));
-    let status = run(alloc, &words, &mut src, &mut out, &mut DropSink);
+    let status = run_over(alloc, &words, &mut src, &mut out);
     Ok((status, src.octets().len(), out.octets().len()))
 }
 

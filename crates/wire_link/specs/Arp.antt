@@ -11,9 +11,15 @@ pub record Message : Type 0 where
   pub tha : List ℕ
   pub tpa : ℕ
 
--- a request or a reply
+-- the operations: a request, and the reply to one
+abbrev pub request : ℕ
+request = 1
+
+abbrev pub reply : ℕ
+reply = 2
+
 abbrev pub IsOperation : ℕ → Type 0
-IsOperation op = (op ≡ 1) ⊎ (op ≡ 2)
+IsOperation op = (op ≡ request) ⊎ (op ≡ reply)
 
 -- what has a spelling
 pub record IsMessage (m : Message) : Type 0 where

@@ -11,7 +11,8 @@ abbrev pub slot : Bool → ℕ → Option ℕ
 slot false byte = None
 slot true byte = Some byte
 
--- the slots of so many places from one on, in a ring of so many bytes: a place stands at its number modulo the ring's length
+-- the slots of so many places from one on, in a ring with room for so many bytes: a place, counted from the one at the ring's
+-- front, stands at its number modulo the room
 abbrev pub slots : ℕ → List ℕ → List ℕ → ℕ → ℕ → List (Option ℕ)
 slots room ring words place zero = []
 slots room ring words place (suc count) =

@@ -1,20 +1,21 @@
 -- What was seen of a capture is what it shows.
-use Rattle.std.specs.Prelude.{◌≡◌, ℕ, ◌≤◌, List, length, take}
+use Rattle.std.specs.Prelude.{◌≡◌, ℕ, ◌≤◌, List, [], length, take}
 use Rattle.efi_base.specs.declared.plain.Record.{Record}
 use Rattle.tcp_recv.specs.Stream.{front, is_over}
 use Rattle.wire_http.specs.Response.{IsWhole}
-use Rattle.load_core.specs.Met.{HasLoadSoFar}
+use Rattle.load_core.specs.Met.{HasLoadSoFar, HasNoLoad}
 use Rattle.tap_core.specs.declared.passive.Seen.{Seen}
 use Rattle.tap_core.specs.declared.ends.End.TheVariants.{Success}
 use Rattle.tap_core.specs.Shown.{Tells}
 use Rattle.tap_core.specs.Shows.{Telling, Shows}
 
 -- it tells this, and with success it has the body of the whole response, which fits the buffer; however it ended, those octets
--- of the body that came and fit
+-- of a load's body that came and fit, and none where the stream has no such body
 pub record IsSeenOf (most : ℕ) (t : Telling) (s : Seen) : Type 0 where
   pub tells : Tells t.end t.opening (length (front t.board.kept)) (is_over t.board) t.upto s.shown
   pub body : (n : ℕ) → t.end ≡ Success n → (body : List ℕ) → IsWhole (front t.board.kept) (is_over t.board) 200 body → length body ≤ most → s.body ≡ body
   pub so_far : (octets : List ℕ) → HasLoadSoFar (front t.board.kept) octets → s.body ≡ take most octets
+  pub none : HasNoLoad (front t.board.kept) → s.body ≡ []
 
 pub record IsSeen (most : ℕ) (records : List Record) (s : Seen) : Type 0 where
   pub telling : Telling

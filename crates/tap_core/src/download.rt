@@ -2,7 +2,7 @@
 ghost use Rattle.std.specs.Prelude.{◌≡◌, ◌==◌, ◌&&◌, ◌+◌, ◌%◌, ◌^◌, ◌<◌, ◌≤◌, ℕ, List, [], IfOk, OnOk, length, drop, take, min, vec_len};
 ghost use Rattle.tcp_recv.specs.Stream.{Board, empty, front, is_over};
 ghost use Rattle.tcp_recv.specs.Receiver.{untaken};
-ghost use Rattle.load_core.specs.Met.{HasLoadSoFar};
+ghost use Rattle.load_core.specs.Met.{HasLoadSoFar, HasNoLoad};
 ghost use Rattle.wire_http.specs.Response.{IsWhole};
 ghost use Rattle.wire_l4.specs.Seen.{segment_seen};
 ghost use Rattle.tap_core.specs.Connections.{after_segment, is_reset};
@@ -90,12 +90,14 @@ impl Download {
         self.recv.ended()
     }
 
-    /// The octets of the body as far as they came and fit: the body, where the response is whole.
+    /// The octets of the body as far as they came and fit: the body, where the response is whole. None of another status's body
+    /// and none of a coded one.
     pub fn into_body(self) -> Bytes
         ensures whole { (most irs : ℕ) (board : Board) → Follows most irs board self
             → (body : List ℕ) → IsWhole (front board.kept) (is_over board) 200 body → length body ≤ most → result ≡ body }
         ensures so_far { (most irs : ℕ) (board : Board) → Follows most irs board self
             → (octets : List ℕ) → HasLoadSoFar (front board.kept) octets → result ≡ take most octets }
+        ensures none { (most irs : ℕ) (board : Board) → Follows most irs board self → HasNoLoad (front board.kept) → result ≡ [] }
     {
         let Download { load, .. } = self;
         load.into_body()

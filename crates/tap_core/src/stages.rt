@@ -1,8 +1,9 @@
 //! How far a tap is: which records it has heard, and what it keeps of them.
-ghost use Rattle.std.specs.Prelude.{◌≡◌, ◌∷◌, ◌++◌, [], ℕ, List, IfOk, IsErr, OnOk};
+ghost use Rattle.std.specs.Prelude.{◌≡◌, ◌∷◌, ◌++◌, [], ℕ, List, None, false, IfOk, IsErr, OnOk};
 ghost use Rattle.efi_base.specs.declared.plain.Record.{Record};
 ghost use Rattle.tap_core.specs.Tapping.{IsAnswering, IsEnded, IsFollowing, IsWaiting, StandsFor};
 ghost use Rattle.tap_core.specs.Watching.{IsSeen};
+ghost use Rattle.tap_core.specs.Shown.{Tells};
 ghost use Rattle.tap_core.specs.declared.ends.End.TheVariants.{NoConnection};
 ghost use Rattle.tap_core.specs.declared.stages.Stage.TheVariants.{Broken};
 
@@ -122,7 +123,7 @@ fn hear_more(listener: Listener, download: Download, record: &Record) -> Result<
 /// What is seen of the records, where no more come.
 pub fn seen_at(alloc: Global, stage: Stage) -> Seen
     ensures seen { (most : ℕ) (records : List Record) → StandsFor most records stage → IsSeen most records result }
-    ensures broken { stage ≡ Broken → result.shown.end ≡ NoConnection }
+    ensures broken { stage ≡ Broken → Tells NoConnection None 0 false [] result.shown × (result.body ≡ []) }
 {
     match stage {
         Stage::Opening(waiting) => Seen {

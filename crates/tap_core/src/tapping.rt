@@ -1,8 +1,9 @@
 //! A tap on the station's link: it hears the records of a capture one after the other, and tells at the end what they show
 //! of their first connection. It keeps no list of them once a segment asks for a connection.
-ghost use Rattle.std.specs.Prelude.{◌≡◌, ◌∷◌, ◌++◌, [], ℕ, List, IfOk, IsErr, OnErr, OnOk};
+ghost use Rattle.std.specs.Prelude.{◌≡◌, ◌∷◌, ◌++◌, [], ℕ, List, None, false, IfOk, IsErr, OnErr, OnOk};
 ghost use Rattle.efi_base.specs.declared.plain.Record.{Record};
 ghost use Rattle.tap_core.specs.declared.ends.End.TheVariants.{NoConnection};
+ghost use Rattle.tap_core.specs.Shown.{Tells};
 ghost use Rattle.tap_core.specs.Tapping.{HasHeard, IsBroken};
 ghost use Rattle.tap_core.specs.Watching.{IsSeen};
 
@@ -46,7 +47,7 @@ impl Tap {
     /// is shown of a connection.
     pub fn finish(self) -> Seen
         ensures seen { (most : ℕ) (records : List Record) → HasHeard most records self → IsSeen most records result }
-        ensures broken { IsBroken self → result.shown.end ≡ NoConnection }
+        ensures broken { IsBroken self → Tells NoConnection None 0 false [] result.shown × (result.body ≡ []) }
     {
         let Tap { alloc, stage, .. } = self;
         seen_at(alloc, stage)

@@ -13,4 +13,5 @@ returns c = λ most irs board upto f counted.
           (subst (λ b. Tells c.args.end o c.accepted.result b upto c.shown_with.result) (c.ended.ensures most irs board f) (c.shown_with.ensures upto counted));
       body = λ n e body whole le. c.into_body.ensures.whole most irs board f body whole le;
       so_far = λ octets so_far. c.into_body.ensures.so_far most irs board f octets so_far;
+      none = λ none. c.into_body.ensures.none most irs board f none;
     }

@@ -13,13 +13,13 @@ pub returns-in-Opening-clause-seen : goal.returns-in-Opening-clause-seen
 returns-in-Opening-clause-seen c = λ most records st.
     let w = subst (StandsFor most records) c.in-Opening.is st in
     seen-unopened most records _ w.none
-    (record { tells = subst (λ l. Tells NoConnection None 0 false l c.shown_without.result) (c.deref.ensures.value ∙ w.kept) c.shown_without.ensures; body = λ n e. search rules; so_far = λ octets so_far. absurd (nothing-no so_far.0 so_far.1 so_far.2 so_far.3) })
+    (record { tells = subst (λ l. Tells NoConnection None 0 false l c.shown_without.result) (c.deref.ensures.value ∙ w.kept) c.shown_without.ensures; body = λ n e. search rules; so_far = λ octets so_far. absurd (nothing-no so_far.0 so_far.1 so_far.2 so_far.3); none = λ none. c.new.ensures })
 
 pub returns-in-Answering-clause-seen : goal.returns-in-Answering-clause-seen
 returns-in-Answering-clause-seen c = λ most records st.
     let a = subst (StandsFor most records) c.in-Answering.is st in
     seen-unanswered most records (syn_seen c.in-Answering.listener.syn) a.at _ a.is_first a.none
-    (record { tells = c.shown_with.ensures records a.listens.counts; body = λ n e. search rules; so_far = λ octets so_far. absurd (nothing-no so_far.0 so_far.1 so_far.2 so_far.3) })
+    (record { tells = c.shown_with.ensures records a.listens.counts; body = λ n e. search rules; so_far = λ octets so_far. absurd (nothing-no so_far.0 so_far.1 so_far.2 so_far.3); none = λ none. c.new-in-Answering.ensures })
 
 pub returns-in-Following-clause-seen : goal.returns-in-Following-clause-seen
 returns-in-Following-clause-seen c = λ most records st.

@@ -9,3 +9,7 @@ returns-clause-whole c = λ most irs board f body whole le.
 pub returns-clause-so_far : goal.returns-clause-so_far
 returns-clause-so_far c = λ most irs board f octets so_far.
     c.into_body.ensures.so_far most (front board.kept) (taken-Follows most irs board c.args.self f) octets so_far
+
+pub returns-clause-none : goal.returns-clause-none
+returns-clause-none c = λ most irs board f none.
+    c.into_body.ensures.none most (front board.kept) (taken-Follows most irs board c.args.self f) none

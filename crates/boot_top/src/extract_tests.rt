@@ -54,9 +54,12 @@ pub(crate) fn check_rows<R: Abort + AllocGlobal>(
     table: &str,
     count: usize,
 ) -> Result<(), Fail> {
-    let Some((_, table)) = table.split_once('#') else {
+    let Some((before, table)) = table.split_once('#') else {
         return Err(Fail::new("a table without a row"));
     };
+    if !are_known(before, "") {
+        return Err(Fail::new("text in front of a table's first row"));
+    }
     let mut rows = 0usize;
     for text in table.split('#') {
         check_row(rt, text)?;
@@ -74,7 +77,7 @@ fn check_row<R: Abort + AllocGlobal>(rt: &R, text: &str) -> Result<(), Fail> {
         name: name.trim(),
         lines,
     };
-    if !are_known(lines, LINES) {
+    if !are_known(lines, LINES) || !are_single(lines) {
         return Err(Fail::new(name));
     }
     match line_of(lines, "refuses") {
@@ -104,6 +107,28 @@ fn is_known(word: &str, words: &str) -> bool {
         }
     }
     false
+}
+
+/// Whether each word but `send` begins one line at most, and a row says either what it gives or what it refuses.
+fn are_single(lines: &str) -> bool {
+    for word in LINES.split_whitespace() {
+        if word != "send" && count_of(lines, word) > 1 {
+            return false;
+        }
+    }
+    count_of(lines, "gives") != count_of(lines, "refuses")
+}
+
+/// How many lines begin with a word.
+fn count_of(lines: &str, word: &str) -> usize {
+    let mut count = 0usize;
+    for line in lines.lines() {
+        let (first, _) = word_of(line.trim());
+        if first == word {
+            count = count.wrapping_add(1);
+        }
+    }
+    count
 }
 
 /// What stands behind a word in the first line that begins with it.

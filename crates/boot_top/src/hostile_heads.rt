@@ -36,7 +36,7 @@ gives 1 | | 48 open | bad-response chunk | 6 sent 1 heard 3
 stream HTTP/1.1 200 OK\r\nTransfer-Encoding: chunked\r\n\r\n5\r\n01234xx
 send ask | accept 0 | cut 0 55 | cut 55 56 | cut 56 57
 gives 1 | | 56 open | bad-response chunk | 6 sent 1 heard 3
-# one event with all of a chunk of nearly 2^64 octets
+# all of a chunk of nearly 2^64 octets in one segment
 stream HTTP/1.1 200 OK\r\nTransfer-Encoding: chunked\r\n\r\nfffffffffffffffe\r\n0123456789
 send ask | accept 0 | cut 0 75
 gives 1 | | 75 open | bad-response chunk | 4 sent 1 heard 2
@@ -51,7 +51,7 @@ gives 1 | | 302 open | bad-response chunk | 8 sent 1 heard 4
 send ask | accept 0 | at 0 HTTP/1.1 200 OK\r\nTransfer-Encoding: chunked\r\n\r\n0\r\n | many 50 64 A: b\r\n
 send at 434 \r\n
 gives 0 | | 436 open | success 0 | 8 sent 1 heard 4
-# one of 65 fields
+# a trailer of 65 fields
 send ask | accept 0 | at 0 HTTP/1.1 200 OK\r\nTransfer-Encoding: chunked\r\n\r\n0\r\n | many 50 64 A: b\r\n
 send at 434 A
 gives 1 | | 435 open | bad-response trailer | 8 sent 1 heard 4
@@ -181,10 +181,10 @@ const HEADS: &str = r"
 # a head of 64 fields
 send ask | accept 0 | at 0 HTTP/1.1 200 OK\r\nContent-Length: 10\r\n | many 37 63 A: b\r\n | at 415 \r\n0123456789
 gives 0 | 0123456789 | 427 open | success 10 | 8 sent 1 heard 4
-# one of 65 fields
+# a head of 65 fields
 send ask | accept 0 | at 0 HTTP/1.1 200 OK\r\nContent-Length: 10\r\n | many 37 63 A: b\r\n | at 415 A
 gives 1 | | 416 open | bad-response head | 8 sent 1 heard 4
-# one of 65 fields in one event
+# a head of 65 fields in one segment
 send ask | accept 0 | many 37 64 A: b\r\n | at 421 \r\n0123456789 | at 0 HTTP/1.1 200 OK\r\nContent-Length: 10\r\n
 gives 1 | | 433 open | bad-response head | 8 sent 1 heard 4
 # a head of 16,383 octets
@@ -199,7 +199,7 @@ gives 0 | 0123456789 | 16394 open | success 10 | 8 sent 1 heard 4
 send ask | accept 0 | at 0 HTTP/1.1 200 OK\r\nContent-Length: 10\r\nA:\s | many 40 16341 x | at 16381 \r\n
 send at 16383 \r | at 16384 \n0123456789
 gives 1 | | 16384 open | bad-response head | 10 sent 1 heard 5
-# one of 16,385 octets in one event
+# a head of 16,385 octets in one segment
 send ask | accept 0 | at 0 HTTP/1.1 200 OK\r\nContent-Length: 10\r\nA:\s | many 40 16341 x
 send at 16381 \r\n\r\n0123456789
 gives 1 | | 16395 open | bad-response head | 8 sent 1 heard 4

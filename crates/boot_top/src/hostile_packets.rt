@@ -25,7 +25,7 @@ gives 0 | 0123456789 | 49 open | success 10 | 6 sent 1 heard 3
 # a packet's header of four words
 send ask | accept 0 | packet 0 0 68 | cut 0 49
 gives 0 | 0123456789 | 49 open | success 10 | 6 sent 1 heard 3
-# one of no word
+# a packet's header of no word
 send ask | accept 0 | packet 0 0 64 | cut 0 49
 gives 0 | 0123456789 | 49 open | success 10 | 6 sent 1 heard 3
 # one that takes in the segment's header
@@ -60,7 +60,7 @@ const OPTIONS: &str = r"
 # a segment's header of four words
 send ask | accept 0 | header 64 | cut 0 49
 gives 0 | 0123456789 | 49 open | success 10 | 6 sent 1 heard 3
-# one of no word
+# a segment's header of no word
 send ask | accept 0 | header 0 | cut 0 49
 gives 0 | 0123456789 | 49 open | success 10 | 6 sent 1 heard 3
 # one that takes in the stream
@@ -152,7 +152,7 @@ gives 1 | | 0 open | out-of-time | 44 sent 1 heard 22
 # fifteen up to the longest packet
 send ask | accept 0 | flood-end 100 15 65512 65515 | in-fragments 0 49
 gives 0 | 0123456789 | 49 open | success 10 | 42 sent 1 heard 21
-# a key that is open while thousands come
+# a key that is open while a thousand come
 send ask | accept 0 | more 9 0 40 | flood-more 100 1015 0 8 | end 9 40 69
 gives 0 | 0123456789 | 49 open | success 10 | 2036 sent 1 heard 1018
 # thousands of fragments before and in the download

@@ -19,13 +19,13 @@ refuses bad input at 24
 # a record of one octet, without it
 send record 1
 refuses bad input at 24
-# one that is too long behind a frame
+# a record that is too long behind a frame
 send stray | record 262145
 refuses bad input at 53
-# one that is too long behind a whole download
+# a record that is too long behind a whole download
 send ask | accept 0 | cut 0 49 | record 262145
 refuses bad input at 283
-# one without its octets behind a whole download
+# a record without its octets behind a whole download
 send ask | accept 0 | cut 0 49 | record 60
 refuses bad input at 283
 # records without octets

@@ -1,7 +1,7 @@
 //! The input of `extract`, read to its end in pieces.
-ghost use Rattle.std.specs.Prelude.{◌≡◌, ◌≢◌, ◌<◌, ◌≤◌, ℕ, List, [], Err, length, IfOk, IfSome, IsErrOf, OnOk, vec_len};
+ghost use Rattle.std.specs.Prelude.{◌+◌, ◌≡◌, ◌≢◌, ◌<◌, ◌≤◌, ℕ, List, [], Err, length, IfOk, IfSome, IsErrOf, OnOk, vec_len};
 ghost use Rattle.std.specs.Io.KnownBytes.{IsAtEnd};
-ghost use Rattle.efi_base.specs.Intake.{HasInputCause, TakesAtMost};
+ghost use Rattle.efi_base.specs.Intake.{HasInputCause, TakesAtMost, input_limit};
 ghost use Rattle.boot_top.specs.Answers.{IsWatched};
 ghost use Rattle.boot_top.specs.Streaming.{FeedsPiece, HasWatched};
 
@@ -17,13 +17,13 @@ pub fn watch_source<S: Source>(alloc: Global, most: u32, src: &mut S) -> Result<
     // All of the input, which isn't longer than the limit.
     ensures whole { IfOk result (λ watched. IfSome (S.left src.old) (λ octets. IsWatched most octets watched)) }
     ensures end { OnOk result (IsAtEnd (S.left src.new)) }
-    ensures bound { OnOk result (IfSome (S.left src.old) (λ octets. length octets ≤ 2147483648)) }
+    ensures bound { OnOk result (IfSome (S.left src.old) (λ octets. length octets ≤ input_limit)) }
 
     // What it took, whatever it answers.
-    ensures taken { TakesAtMost (S.left src.old) (S.left src.new) 2147483649 }
+    ensures taken { TakesAtMost (S.left src.old) (S.left src.new) (input_limit + 1) }
 
     // When the faults come.
-    ensures too_long { IsErrOf result InputFault.TooLong → IfSome (S.left src.old) (λ octets. 2147483648 < length octets) }
+    ensures too_long { IsErrOf result InputFault.TooLong → IfSome (S.left src.old) (λ octets. input_limit < length octets) }
     ensures cause { HasInputCause (S.faults src.old) (S.faults src.new) result }
 {
     let mut room = room_of(alloc)?;

@@ -1,8 +1,8 @@
 //! The command `extract`: the image that a capture shows, or the report of it, or the line that refuses the input.
-ghost use Rattle.std.specs.Prelude.{◌≡◌, ◌≢◌, ◌⊎◌, ◌<◌, List, [], ℕ, length, string_bytes, IfOk, IfSome};
+ghost use Rattle.std.specs.Prelude.{◌+◌, ◌≡◌, ◌≢◌, ◌⊎◌, ◌<◌, List, [], ℕ, length, string_bytes, IfOk, IfSome};
 ghost use Rattle.std.specs.Io.KnownBytes.{Appends, IsAtEnd};
 ghost use Rattle.efi_base.specs.Causes.{AppendsFront, Rose};
-ghost use Rattle.efi_base.specs.Intake.{TakesAtMost};
+ghost use Rattle.efi_base.specs.Intake.{TakesAtMost, input_limit};
 ghost use Rattle.efi_base.specs.declared.plain.Record.{Record};
 ghost use Rattle.tcp_recv.specs.Stream.{front, is_over};
 ghost use Rattle.tap_core.specs.Shown.{Tells};
@@ -48,11 +48,11 @@ pub fn extract<S: Source, K: Sink>(alloc: Global, task: ExtractTask, src: &mut S
         × Appends (K.held out.old) (K.held out.new) line) }
     ensures read_whole { (result ≡ 0) ⊎ (result ≡ 1) ⊎ (result ≡ 3) ⊎ (result ≡ 5) → IsAtEnd (S.left src.new) }
     ensures read_first { out.new ≢ out.old → IsAtEnd (S.left src.new) }
-    ensures taken { TakesAtMost (S.left src.old) (S.left src.new) 2147483649 }
+    ensures taken { TakesAtMost (S.left src.old) (S.left src.new) (input_limit + 1) }
 
     // The input is longer than the limit.
-    ensures too_long { result ≡ 7 → IfSome (S.left src.old) (λ input. 2147483648 < length input) }
-    ensures long { IfSome (S.left src.old) (λ input. 2147483648 < length input
+    ensures too_long { result ≡ 7 → IfSome (S.left src.old) (λ input. input_limit < length input) }
+    ensures long { IfSome (S.left src.old) (λ input. input_limit < length input
         → (result ≡ 4) ⊎ (result ≡ 6) ⊎ (result ≡ 7)) }
 
     // When the other answers come.

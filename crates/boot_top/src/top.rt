@@ -1,8 +1,8 @@
 //! The top call: what the program does with its words, standard input and standard output.
-ghost use Rattle.std.specs.Prelude.{◌≡◌, ◌≢◌, ◌⊎◌, ◌<◌, List, Option, ℕ, map, string_bytes, length, true, false, None, IfSome};
+ghost use Rattle.std.specs.Prelude.{◌+◌, ◌≡◌, ◌≢◌, ◌⊎◌, ◌<◌, List, Option, ℕ, map, string_bytes, length, true, false, None, IfSome};
 ghost use Rattle.std.specs.Io.KnownBytes.{Appends, IsAtEnd};
 ghost use Rattle.efi_base.specs.Causes.{AppendsFront, Rose};
-ghost use Rattle.efi_base.specs.Intake.{TakesAtMost};
+ghost use Rattle.efi_base.specs.Intake.{TakesAtMost, input_limit};
 ghost use Rattle.boot_words.specs.Grammar.{grammar_task};
 ghost use Rattle.boot_words.specs.declared.task.Task.{Task};
 ghost use Rattle.boot_words.specs.declared.task.ExtractTask.{ExtractTask};
@@ -65,7 +65,7 @@ pub fn run<S: Source, K: Sink, P: Sink>(
         → (result ≡ 0) ⊎ (result ≡ 1) ⊎ (result ≡ 3) ⊎ (result ≡ 4) ⊎ (result ≡ 5) ⊎ (result ≡ 6) ⊎ (result ≡ 7) }
     ensures read_whole { (result ≡ 0) ⊎ (result ≡ 1) ⊎ (result ≡ 3) ⊎ (result ≡ 5) → IsAtEnd (S.left src.new) }
     ensures read_first { out.new ≢ out.old → IsAtEnd (S.left src.new) }
-    ensures taken { TakesAtMost (S.left src.old) (S.left src.new) 2147483649 }
+    ensures taken { TakesAtMost (S.left src.old) (S.left src.new) (input_limit + 1) }
 
     // The headline: where every cut of the connection comes from a peer that speaks one stream, however lost, repeated or
     // reordered, the download succeeds exactly where the accepted stream comes to hold a whole response of status 200 that fits
@@ -78,9 +78,9 @@ pub fn run<S: Source, K: Sink, P: Sink>(
         × Appends (K.held out.old) (K.held out.new) body)) }
 
     // The input is longer than the limit.
-    ensures too_long { result ≡ 7 → IfSome (S.left src.old) (λ input. 2147483648 < length input) }
+    ensures too_long { result ≡ 7 → IfSome (S.left src.old) (λ input. input_limit < length input) }
     ensures long { (task : Task) → AskFor (map string_bytes words.now.items) task → IsBuilt task
-        → IfSome (S.left src.old) (λ input. 2147483648 < length input → (result ≡ 4) ⊎ (result ≡ 6) ⊎ (result ≡ 7)) }
+        → IfSome (S.left src.old) (λ input. input_limit < length input → (result ≡ 4) ⊎ (result ≡ 6) ⊎ (result ≡ 7)) }
 
     // When the other answers come.
     ensures source { result ≡ 4 → Rose (S.faults src.old) (S.faults src.new) }

@@ -168,6 +168,7 @@ fn hand_to_file<R: Files>(
     ensures moves { IfSome result (λ n. 0 < length piece.now → 0 < n) }
     ensures handed { IfSome result (λ n. Appends (option_and_then R.File.contents file.old) (option_and_then R.File.contents file.new)
         (take n piece.now)) }
+    ensures opened { IfSome result (λ n. (made : R.File) × Appends (R.File.contents made) (option_and_then R.File.contents file.new) (take n piece.now)) }
     ensures front { AppendsFront (option_and_then R.File.contents file.old) (option_and_then R.File.contents file.new) piece.now }
 {
     match file {
@@ -194,8 +195,10 @@ impl<R: Files> Sink for FileSink<'_, R> {
         ensures bytes { WriteAppends None None result piece.now }
         ensures cause { HasMissCause self.old.faults self.new.faults result }
 
-        // The same of the file, once it is open.
+        // The same of the file, once it is open. At the first write, too, the file took what is answered behind what it held
+        // when it was opened.
         ensures handed { IfOk result (λ n. Appends self.old.octets self.new.octets (take n piece.now)) }
+        ensures opened { IfOk result (λ n. (made : R.File) × Appends (R.File.contents made) self.new.octets (take n piece.now)) }
         ensures front { AppendsFront self.old.octets self.new.octets piece.now }
         ensures failed { OnErr result (self.new.faults ≡ count_up self.old.faults) }
         ensures only_failed { result ≢ Err Miss.OutOfResources }

@@ -1,6 +1,7 @@
 pub mod Answering
 pub mod Connections
 pub mod Counting
+pub mod Early
 pub mod Ends
 pub mod Following
 pub mod Frames

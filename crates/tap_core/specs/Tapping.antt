@@ -1,4 +1,4 @@
--- What a tap stands for that has heard records one after the other. It keeps records only until one asks for a connection.
+-- What a tap stands for that has heard records one after the other. No list of them is kept.
 use Rattle.std.specs.Prelude.{◌≡◌, ℕ, ◌<◌, false, List, [], Option, Some, None, All, vec_len}
 use Rattle.efi_base.specs.declared.plain.Record.{Record}
 use Rattle.wire_l4.specs.Segment.{Segment}
@@ -11,7 +11,8 @@ use Rattle.tap_core.specs.declared.stages.Stage.TheVariants.{Opening, Answering,
 use Rattle.tap_core.specs.declared.stages.Waiting.{Waiting}
 use Rattle.tap_core.specs.declared.passive.Seen.{Seen}
 use Rattle.tap_core.specs.Connections.{accepts_at, board_after}
-use Rattle.tap_core.specs.Counting.{Counted}
+use Rattle.tap_core.specs.Counting.{Counted, Tallies}
+use Rattle.tap_core.specs.Early.{KeepsFragments}
 use Rattle.tap_core.specs.Ends.{MeetNothing}
 use Rattle.tap_core.specs.Following.{Follows}
 use Rattle.tap_core.specs.Hearing.{pools_sent, pools_from}
@@ -20,11 +21,12 @@ use Rattle.tap_core.specs.Seen.{syn_seen}
 use Rattle.tap_core.specs.Shows.{Telling, heard_behind, HasConnection, ShowsEnd}
 use Rattle.tap_core.specs.Watching.{IsSeenOf}
 
--- none of the records asks for a connection, and they are kept
+-- none of the records asks for a connection, and this stands for them whichever is the station
 pub record IsWaiting (records : List Record) (w : Waiting) : Type 0 where
   pub none : All (λ o. o ≡ None) (openings_of records)
   pub pools : w.reasm ≡ pools_sent records
-  pub kept : w.kept.items ≡ records
+  pub early : KeepsFragments records w.early
+  pub tally : Tallies records w.tally
 
 -- the station has heard the records: the pools are those that they left open, the counts theirs
 pub record Listens (records : List Record) (l : Listener) : Type 0 where

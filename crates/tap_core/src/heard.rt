@@ -40,7 +40,7 @@ pub fn segment_of<'a>(syn: &Syn, whole: &Whole<'a>) -> Option<Tcp<'a>>
 }
 
 /// Takes in the packet of a record, of which nothing is wanted but what later ones make with it.
-fn pass(syn: &Syn, reasm: &mut Reasm, record: &Record)
+pub fn pass(syn: &Syn, reasm: &mut Reasm, record: &Record)
     ensures { reasm.new ≡ pools_from (syn_seen syn.now) reasm.old («record».now ∷ []) }
 {
     match read_heard(syn.station, record.frame.as_slice()) {
@@ -48,14 +48,5 @@ fn pass(syn: &Syn, reasm: &mut Reasm, record: &Record)
             let _ = reasm.put(record.tick, &packet);
         }
         None => reasm.tick(record.tick),
-    }
-}
-
-/// The same for records one after the other.
-pub fn pass_all(syn: &Syn, reasm: &mut Reasm, records: &[Record])
-    ensures { reasm.new ≡ pools_from (syn_seen syn.now) reasm.old records.now }
-{
-    for record in records {
-        pass(syn, reasm, record);
     }
 }

@@ -5,6 +5,8 @@
 mod answer;
 // the stream of the connection, and the load of it
 mod download;
+// the fragments in front of that segment
+mod early;
 // how a download ends
 mod ends;
 // what a record adds to a download
@@ -23,6 +25,8 @@ mod packets;
 mod passive;
 // how far a tap is
 mod stages;
+// how many records each station sent in front of it
+mod tally;
 // the tap that hears record by record
 mod tapping;
 // what a report tells

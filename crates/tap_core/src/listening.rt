@@ -4,6 +4,8 @@ ghost use Rattle.efi_base.specs.declared.plain.Record.{Record};
 ghost use Rattle.tcp_recv.specs.Stream.{Board};
 ghost use Rattle.tap_core.specs.Answering.{number_of};
 ghost use Rattle.tap_core.specs.Connections.{after_heard, is_reset_at};
+ghost use Rattle.tap_core.specs.Counting.{Tallies};
+ghost use Rattle.tap_core.specs.Early.{KeepsFragments};
 ghost use Rattle.tap_core.specs.Following.{Follows};
 ghost use Rattle.tap_core.specs.Hearing.{heard_at, pools_from};
 ghost use Rattle.tap_core.specs.Seen.{syn_seen};
@@ -11,10 +13,11 @@ ghost use Rattle.tap_core.specs.Tapping.{Listens};
 
 use crate::answer::answer_at;
 use crate::download::Download;
+use crate::early::Fragments;
 use crate::follow::take_in;
-use crate::heard::pass_all;
 use crate::opening::Syn;
-use crate::telling::{Counts, count_one, counts_of};
+use crate::tally::Tally;
+use crate::telling::{Counts, count_one};
 use efi_base::{NoMemory, Record};
 use ip_core::Reasm;
 use std::alloc::Global;
@@ -27,14 +30,18 @@ pub struct Listener {
     pub counts: Counts,
 }
 
-/// The station that this segment shows, which has heard these records.
-pub fn listen(alloc: Global, syn: Syn, records: &[Record]) -> Result<Listener, NoMemory>
+/// The station that this segment shows, by what stands for the records that it has heard.
+pub fn listen(
+    alloc: Global,
+    syn: Syn,
+    early: &Fragments,
+    tally: &Tally,
+) -> Result<Listener, NoMemory>
     ensures syn { IfOk result (λ l. l.syn ≡ syn) }
-    ensures listens { IfOk result (Listens records.now) }
+    ensures listens { (records : List Record) → KeepsFragments records early.now → Tallies records tally.now → IfOk result (Listens records) }
 {
-    let mut reasm = Reasm::new(alloc)?;
-    pass_all(&syn, &mut reasm, records);
-    let counts = counts_of(syn.station, records);
+    let reasm = early.pools(alloc, &syn)?;
+    let counts = tally.counts(syn.station);
     Ok(Listener { syn, reasm, counts })
 }
 

@@ -2,6 +2,7 @@
 ghost use Rattle.std.specs.Prelude.{◌≡◌, option_map};
 ghost use Rattle.wire_ip4.specs.Packet.{packet_of, unverified_packet_of};
 ghost use Rattle.wire_ip4.specs.Seen.{packet_seen};
+ghost use Rattle.tap_core.specs.Early.{holds_fragment};
 ghost use Rattle.tap_core.specs.Frames.{any_packet, heard_packet, is_sent};
 
 use efi_base::Mac;
@@ -45,6 +46,22 @@ pub fn read_heard(station: Mac, frame: &[u8]) -> Option<Ip<'_>>
     match read_ip(ether.payload) {
         Ok(packet) => Some(packet),
         Err(_) => None,
+    }
+}
+
+/// Whether a frame holds a fragment with a right checksum of its header.
+pub fn holds_fragment(frame: &[u8]) -> bool
+    ensures { result ≡ holds_fragment frame.now }
+{
+    let Ok(ether) = read_ether(frame) else {
+        return false;
+    };
+    if ether.proto != IPV4 {
+        return false;
+    }
+    match read_ip(ether.payload) {
+        Ok(packet) => packet.mf || packet.place != 0,
+        Err(_) => false,
     }
 }
 

@@ -1,5 +1,5 @@
 //! How far a tap is: which records it has heard, and what it keeps of them.
-ghost use Rattle.std.specs.Prelude.{◌≡◌, ◌∷◌, ◌++◌, [], ℕ, List, None, false, IfOk, IsErr, OnOk};
+ghost use Rattle.std.specs.Prelude.{◌≡◌, ◌∷◌, ◌++◌, [], ℕ, List, None, false, IfOk, IsErr};
 ghost use Rattle.efi_base.specs.declared.plain.Record.{Record};
 ghost use Rattle.tap_core.specs.Tapping.{IsAnswering, IsEnded, IsFollowing, IsWaiting, StandsFor};
 ghost use Rattle.tap_core.specs.Watching.{IsSeen};
@@ -8,21 +8,24 @@ ghost use Rattle.tap_core.specs.declared.ends.End.TheVariants.{NoConnection};
 ghost use Rattle.tap_core.specs.declared.stages.Stage.TheVariants.{Broken};
 
 use crate::download::Download;
+use crate::early::Fragments;
 use crate::ends::End;
 use crate::listening::{Listener, hear_answer, hear_segment, listen};
 use crate::opening::asked_at;
 use crate::passive::{Seen, seen_of};
+use crate::tally::Tally;
 use crate::telling::{shown_with, shown_without};
-use efi_base::{Bytes, NoMemory, Record};
+use efi_base::{Bytes, NoMemory, Record, Tick};
 use ip_core::Reasm;
 use std::alloc::Global;
 
 /// Records of which none asks for a connection. Which of them the station sent and heard shows only with its first
-/// segment, so they are kept until then.
+/// segment: what stands for them serves whichever it is.
 #[derive(Drop)]
 pub struct Waiting {
     reasm: Reasm,
-    kept: Vec<Record>,
+    early: Fragments,
+    tally: Tally,
 }
 
 /// How far a tap is.
@@ -45,8 +48,13 @@ pub fn first_stage(alloc: Global) -> Result<Stage, NoMemory>
     ensures { IfOk result (λ s. (most : ℕ) → StandsFor most [] s) }
 {
     let reasm = Reasm::new(alloc)?;
-    let kept = Vec::new(alloc);
-    Ok(Stage::Opening(Waiting { reasm, kept }))
+    let early = Fragments::new(alloc);
+    let tally = Tally::new(alloc);
+    Ok(Stage::Opening(Waiting {
+        reasm,
+        early,
+        tally,
+    }))
 }
 
 /// The stage after one record more.
@@ -69,24 +77,21 @@ fn hear_first(alloc: Global, waiting: Waiting, record: Record) -> Result<Stage, 
 {
     let Waiting {
         mut reasm,
-        mut kept,
+        mut early,
+        mut tally,
     } = waiting;
     let asked = asked_at(&mut reasm, &record);
-    keep(&mut kept, record)?;
+    tally.count(&record)?;
+    early.hear(record)?;
     let Some(syn) = asked else {
-        return Ok(Stage::Opening(Waiting { reasm, kept }));
+        return Ok(Stage::Opening(Waiting {
+            reasm,
+            early,
+            tally,
+        }));
     };
-    let listener = listen(alloc, syn, &kept)?;
+    let listener = listen(alloc, syn, &early, &tally)?;
     Ok(Stage::Answering(listener))
-}
-
-fn keep(kept: &mut Vec<Record>, record: Record) -> Result<(), NoMemory>
-    ensures { OnOk result (kept.new.items ≡ kept.old.items ++ «record» ∷ []) }
-{
-    match kept.push(record) {
-        Ok(()) => Ok(()),
-        Err(_) => Err(NoMemory),
-    }
 }
 
 /// A record before which none accepts the connection.
@@ -127,7 +132,7 @@ pub fn seen_at(alloc: Global, stage: Stage) -> Seen
 {
     match stage {
         Stage::Opening(waiting) => Seen {
-            shown: shown_without(End::NoConnection, &waiting.kept),
+            shown: waiting.tally.shown(End::NoConnection),
             body: Bytes::new(alloc),
         },
         Stage::Answering(listener) => Seen {
@@ -139,7 +144,7 @@ pub fn seen_at(alloc: Global, stage: Stage) -> Seen
         }
         Stage::Ended(seen) => seen,
         Stage::Broken => Seen {
-            shown: shown_without(End::NoConnection, &[]),
+            shown: shown_without(End::NoConnection, 0, Tick(0)),
             body: Bytes::new(alloc),
         },
     }

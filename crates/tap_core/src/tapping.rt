@@ -1,5 +1,6 @@
 //! A tap on the station's link: it hears the records of a capture one after the other, and tells at the end what they show
-//! of their first connection. It keeps no list of them once a segment asks for a connection.
+//! of their first connection. It keeps no list of them: in front of the segment that asks for a connection it keeps fragments
+//! whose datagrams may not be whole, and a count for each sender.
 ghost use Rattle.std.specs.Prelude.{◌≡◌, ◌∷◌, ◌++◌, [], ℕ, List, None, false, IfOk, IsErr, OnErr, OnOk};
 ghost use Rattle.efi_base.specs.declared.plain.Record.{Record};
 ghost use Rattle.tap_core.specs.declared.ends.End.TheVariants.{NoConnection};

@@ -1,11 +1,10 @@
 //! What a report tells of a capture: the counts, the last tick, the peer.
-ghost use Rattle.std.specs.Prelude.{◌≡◌, ◌+◌, ◌∷◌, ◌++◌, ◌≤◌, [], false, List, Some, None, IfOk, length, filter};
+ghost use Rattle.std.specs.Prelude.{◌≡◌, ◌+◌, ◌∷◌, ◌++◌, [], false, List, Some, None, IfOk, length};
 ghost use Rattle.efi_base.specs.declared.plain.Record.{Record};
 ghost use Rattle.tap_core.specs.Counting.{Counted};
-ghost use Rattle.tap_core.specs.Frames.{is_sent};
 ghost use Rattle.tap_core.specs.Openings.{Opening};
 ghost use Rattle.tap_core.specs.Seen.{syn_seen};
-ghost use Rattle.tap_core.specs.Shown.{Tells, last_tick, sent_by};
+ghost use Rattle.tap_core.specs.Shown.{Tells, last_tick};
 
 use crate::ends::End;
 use crate::opening::Syn;
@@ -35,18 +34,18 @@ pub struct Counts {
     pub tick: Tick,
 }
 
-/// What is shown where no segment asks for a connection.
-pub fn shown_without(end: End, upto: &[Record]) -> Shown
-    ensures { Tells end None 0 false upto.now result }
+/// What is shown of so many records where none asks for a connection, the last one at this tick.
+pub fn shown_without(end: End, heard: u64, tick: Tick) -> Shown
+    ensures { (upto : List Record) → heard ≡ length upto → tick.0 ≡ last_tick upto → Tells end None 0 false upto result }
 {
     Shown {
         peer: None,
         accepted: 0,
         fin: false,
         end,
-        tick: last_tick(upto),
+        tick,
         sent: 0,
-        heard: upto.len() as u64,
+        heard,
     }
 }
 
@@ -66,18 +65,6 @@ pub fn shown_with(syn: &Syn, end: End, accepted: u64, fin: bool, counts: Counts)
         tick: counts.tick,
         sent: counts.sent,
         heard: counts.heard,
-    }
-}
-
-/// The counts of these records, where this is the station.
-pub fn counts_of(station: Mac, records: &[Record]) -> Counts
-    ensures { (o : Opening) → o.station ≡ station.0 → Counted (Some o) records.now result }
-{
-    let sent = count_sent(station, records);
-    Counts {
-        sent: sent as u64,
-        heard: (records.len() - sent) as u64,
-        tick: last_tick(records),
     }
 }
 
@@ -103,35 +90,12 @@ pub fn count_one(station: Mac, counts: Counts, record: &Record) -> Result<Counts
     })
 }
 
-fn one_more(count: u64) -> Result<u64, NoMemory>
+/// One more, where 64 bits count it.
+pub fn one_more(count: u64) -> Result<u64, NoMemory>
     ensures { IfOk result (λ n. n ≡ count + 1) }
 {
     match count.checked_add(1) {
         Some(more) => Ok(more),
         None => Err(NoMemory),
     }
-}
-
-/// The tick of the last record, and 0 where there is none.
-fn last_tick(records: &[Record]) -> Tick
-    ensures { result.0 ≡ last_tick records.now }
-{
-    match records.last() {
-        Some(last) => last.tick,
-        None => Tick(0),
-    }
-}
-
-/// How many of the records this station sent.
-fn count_sent(station: Mac, records: &[Record]) -> usize
-    ensures count { result ≡ length (filter (sent_by station.0) records.now) }
-    ensures bound { result ≤ length records.now }
-{
-    let mut count = 0;
-    for record in records {
-        if is_sent(station, record.frame.as_slice()) {
-            count += 1;
-        }
-    }
-    count
 }

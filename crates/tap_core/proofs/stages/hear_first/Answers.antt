@@ -1,12 +1,11 @@
--- The record is kept, and where it asks for a connection the station has heard all that were kept.
-use Rattle.std.proofs.Common.{◌∙◌, ◌∷◌, ◌++◌, [], option_map, sym, ap, subst}
+-- The record is counted, and kept if it is a fragment. Where it asks for a connection the station has heard all so far.
+use Rattle.std.proofs.Common.{◌∙◌, ◌∷◌, ◌++◌, [], option_map, sym, ap}
 use Rattle.ip_core.specs.Bytes.{bytes_kept}
 use Rattle.ip_core.specs.Datagrams.{after_event, event_datagram}
 use Rattle.ip_core.specs.Frames.{event_of}
 use Rattle.tap_core.specs.Frames.{any_packet}
 use Rattle.tap_core.specs.Openings.{opening_at}
 use Rattle.tap_core.specs.Seen.{syn_seen}
-use Rattle.tap_core.specs.Tapping.{Listens}
 use Rattle.tap_core.proofs.Records.{sent-next, asked-none}
 use Rattle.tap_core.proofs.Steps.{answering-first}
 use Rattle.tap_core.proofs.stages.hear_first.Goals as goal
@@ -18,15 +17,15 @@ returns-in_default c = λ most records w.
       none = asked-none records r w.none (ap (λ p. opening_at r (event_datagram bytes_kept p (event_of any_packet r))) (sym w.pools)
           ∙ sym c.asked_at-asked.ensures.asked ∙ ap (option_map syn_seen) c.in_default.is);
       pools = c.asked_at-asked.ensures.pools ∙ ap (λ p. after_event bytes_kept p (event_of any_packet r)) w.pools ∙ sym (sent-next records r);
-      kept = c.in_ok-keep.ensures ∙ ap (λ l. l ++ r ∷ []) w.kept;
+      early = c.in_ok-hear.ensures records w.early;
+      tally = c.in_ok-count.ensures records w.tally;
     }
 
 pub returns : goal.returns
 returns c = λ most records w.
     let r = c.args.«record» in
-    let kept = c.deref.ensures.value ∙ c.in_ok-keep.ensures ∙ ap (λ l. l ++ r ∷ []) w.kept in
     let l = c.in_ok-listener in
     answering-first records r l.listener (syn_seen c.in-Some.syn) (ap syn_seen l.ensures.syn) w.none
     (ap (λ p. opening_at r (event_datagram bytes_kept p (event_of any_packet r))) (sym w.pools)
     ∙ sym c.asked_at-asked.ensures.asked ∙ ap (option_map syn_seen) c.in-Some.is)
-    (subst (λ x. Listens x l.listener) kept l.ensures.listens)
+    (l.ensures.listens (records ++ r ∷ []) (c.in_ok-hear.ensures records w.early) (c.in_ok-count.ensures records w.tally))

@@ -23,6 +23,16 @@ const ACCEPT_FRONT: &str = "\
 const ACCEPT_REST: &str =
     "02000000000102000000000208004500001800070002400666d50a0000010a000002d7940000";
 
+/// The first fragment, sent by the station itself.
+const OWN_FRONT: &str = "\
+    02000000000202000000000108004500002400072000400646cb0a0000010a0000020050c001000003e8000100015012\
+    ffff";
+
+/// The first fragment, with another checksum of its header.
+const DAMAGED_FRONT: &str = "\
+    02000000000102000000000208004500002400072000400646cc0a0000010a0000020050c001000003e8000100015012\
+    ffff";
+
 /// A response whose body is the octet `A`.
 const WHOLE: &str = "\
     02000000000102000000000208004500004f00020000400666a50a0000010a0000020050c001000003e9000100015018\
@@ -72,17 +82,23 @@ fn from_hex(alloc: Global, text: &str) -> Result<Bytes, Fail> {
     Ok(Bytes::from_vec(octets))
 }
 
+/// The tap hears a frame at a tick.
+fn hear(rt: &impl Abort, alloc: Global, tap: &mut Tap, tick: u32, frame: &str) -> Result<(), Fail> {
+    let frame = from_hex(alloc, frame)?;
+    let record = Record {
+        tick: Tick(tick as u64),
+        frame,
+    };
+    tap.hear(record).expect(rt, "memory");
+    Ok(())
+}
+
 /// What a tap tells of the frames.
 fn heard(rt: &impl Abort, alloc: Global, frames: &[&str], most: u32) -> Result<Seen, Fail> {
     let mut tap = Tap::new(alloc, most).expect(rt, "memory");
     let mut tick = 0u32;
     for frame in frames {
-        let frame = from_hex(alloc, frame)?;
-        let record = Record {
-            tick: Tick(tick as u64),
-            frame,
-        };
-        tap.hear(record).expect(rt, "memory");
+        hear(rt, alloc, &mut tap, tick, frame)?;
         tick = tick.wrapping_add(2);
     }
     Ok(tap.finish())
@@ -198,6 +214,90 @@ fn tells_by_the_table(rt: HostRuntime) -> Result<(), Fail> {
     ];
     for case in &cases {
         check(&rt, case)?;
+    }
+    Ok(())
+}
+
+/// Records in front of the one that asks for the connection and behind it, each at a tick, and how it ends: `OutOfTime` where
+/// the answer in fragments was heard.
+const FRONTS: [(&str, &[(u32, &str)], End); 9] = [
+    (
+        "a fragment, and the others at the end of its time",
+        &[(0, ACCEPT_FRONT), (29_999, SYN), (29_999, ACCEPT_REST)],
+        End::OutOfTime,
+    ),
+    (
+        "the others behind its time",
+        &[(0, ACCEPT_FRONT), (30_000, SYN), (30_000, ACCEPT_REST)],
+        End::NoConnection,
+    ),
+    (
+        "a tick past its time, and ticks that fall",
+        &[
+            (0, ACCEPT_FRONT),
+            (30_000, OTHER),
+            (5, SYN),
+            (5, ACCEPT_REST),
+        ],
+        End::NoConnection,
+    ),
+    (
+        "a tick within its time, and ticks that fall",
+        &[
+            (0, ACCEPT_FRONT),
+            (29_999, OTHER),
+            (5, SYN),
+            (5, ACCEPT_REST),
+        ],
+        End::OutOfTime,
+    ),
+    (
+        "all fragments in front, and ticks that fall",
+        &[
+            (20, ACCEPT_FRONT),
+            (30_019, OTHER),
+            (10, ACCEPT_REST),
+            (11, SYN),
+        ],
+        End::NoConnection,
+    ),
+    (
+        "a fragment that is too old, and two in time",
+        &[
+            (0, ACCEPT_FRONT),
+            (30_000, OTHER),
+            (10, ACCEPT_REST),
+            (11, SYN),
+            (12, ACCEPT_FRONT),
+        ],
+        End::OutOfTime,
+    ),
+    (
+        "all fragments in front",
+        &[(0, ACCEPT_FRONT), (1, ACCEPT_REST), (2, SYN)],
+        End::NoConnection,
+    ),
+    (
+        "a fragment of the station itself",
+        &[(0, OWN_FRONT), (1, SYN), (2, ACCEPT_REST)],
+        End::NoConnection,
+    ),
+    (
+        "a header with a wrong checksum",
+        &[(0, DAMAGED_FRONT), (1, SYN), (2, ACCEPT_REST)],
+        End::NoConnection,
+    ),
+];
+
+#[test]
+fn hears_fragments_in_front(rt: HostRuntime) -> Result<(), Fail> {
+    for (name, records, end) in &FRONTS {
+        let mut tap = Tap::new(rt.alloc(), 1).expect(&rt, "memory");
+        for (tick, frame) in *records {
+            hear(&rt, rt.alloc(), &mut tap, *tick, frame)?;
+        }
+        let seen = tap.finish();
+        assert_eq!(rt; seen.shown.end, *end, "{name}");
     }
     Ok(())
 }

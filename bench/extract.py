@@ -10,6 +10,7 @@ Makes a capture of N megabytes (200 by default) for each kind of download, or fo
   lost      one segment in 100 is lost, and sent again behind the next 40
   chunked   in order, the body in chunks of 4,096 octets
   small     segments of 536 octets in order
+  front     in order, behind as many octets of a connection between others, whose beginning isn't there
 
 and lets each program read it, `cat` to a file, and the others (`tcpflow` and `tcpick` where they are installed) with the
 stream or image to a file. `hold` is Python reading its whole input into memory and then writing it, and nothing else: what
@@ -32,6 +33,7 @@ import time
 
 TOP = pathlib.Path(__file__).resolve().parent.parent
 CLIENT, SERVER = (bytes.fromhex("020000000001"), 0x0A000002, 49153), (bytes.fromhex("020000000002"), 0x0A000001, 80)
+OTHERS = (bytes.fromhex("020000000003"), 0x0A000003, 50000), (bytes.fromhex("020000000004"), 0x0A000004, 80)
 FIN, SYN, PSH, ACK = 1, 2, 8, 16
 ISS, IRS = 65536, 2**32 - 1_000_000
 REQUEST = b"GET /image HTTP/1.1\r\nHost: 10.0.0.1\r\nConnection: close\r\n\r\n"
@@ -41,12 +43,13 @@ CHUNK = 4096
 BUFFER = 2**30
 HOLD = "import sys; sys.stdout.buffer.write(sys.stdin.buffer.read())"
 KINDS = {
-    # segment size, one in so many comes later, by so many segments, chunked
-    "order": (1460, 0, 0, False),
-    "late": (1460, 20, 3, False),
-    "lost": (1460, 100, 40, False),
-    "chunked": (1460, 0, 0, True),
-    "small": (536, 0, 0, False),
+    # segment size, one in so many comes later, by so many segments, chunked, behind other traffic
+    "order": (1460, 0, 0, False, False),
+    "late": (1460, 20, 3, False, False),
+    "lost": (1460, 100, 40, False, False),
+    "chunked": (1460, 0, 0, True, False),
+    "small": (536, 0, 0, False, False),
+    "front": (1460, 0, 0, False, True),
 }
 
 
@@ -134,10 +137,13 @@ class Receiver:
 
 def write_capture(path, length, kind):
     """A capture of the download; the client acknowledges every second segment."""
-    size, every, by, chunked = KINDS[kind]
+    size, every, by, chunked, behind = KINDS[kind]
     here, receiver = ISS + 1 + len(REQUEST), Receiver()
     with open(path, "wb", buffering=PIECE) as out:
         out.write(struct.pack("<IHHIIII", 0xA1B2C3D4, 2, 4, 0, 0, 262144, 1))
+        if behind:
+            for place, octets, _ in segments(image_pieces(length), size):
+                out.write(record(0, *OTHERS, place, 1, ACK, octets))
         out.write(record(0, CLIENT, SERVER, ISS, 0, SYN))
         out.write(record(100, SERVER, CLIENT, IRS, ISS + 1, SYN | ACK))
         out.write(record(200, CLIENT, SERVER, ISS + 1, IRS + 1, PSH | ACK, REQUEST))
@@ -241,9 +247,9 @@ def main():
         parser.error("the kinds are " + ", ".join(KINDS))
     program, first = built(words.program), None
     for kind in kinds:
-        size = KINDS[kind][0]
+        size, behind = KINDS[kind][0], KINDS[kind][4]
         # a frame's headers stand before each segment, and an acknowledgment behind every second one
-        length = int(words.megabytes * 1e6 * size / (size + HEADERS * 3 / 2))
+        length = int(words.megabytes * 1e6 * size / (size + HEADERS * 3 / 2)) // (1 + behind)
         with tempfile.TemporaryDirectory() as folder:
             found, octets = measure(folder, program, kind, length, words.tries)
         first = first or found

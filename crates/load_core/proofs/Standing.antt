@@ -220,10 +220,9 @@ pub feed-heads : (stage : Stage) (kept placed : List ℕ) (most : ℕ) (stream :
 feed-heads stage kept placed most stream e s = subst (λ (t : Stage). StandsAt t kept placed most stream) e s
 
 pub feed-bad : (stage : Stage) (kept placed : List ℕ) (most : ℕ) (stream piece : List ℕ) → stage ≡ BadHead
-    → StandsAt stage kept placed most stream → StandsAt stage kept placed most (stream ++ piece)
+    → StandsAt stage kept placed most stream → HasBadHeads (stream ++ piece) × (placed ≡ [])
 feed-bad stage kept placed most stream piece e s =
-    let bad = subst (λ (t : Stage). StandsAt t kept placed most stream) e s in
-    subst (λ (t : Stage). StandsAt t kept placed most (stream ++ piece)) (sym e) (bad_heads-append stream piece bad.0, bad.1)
+    let bad = subst (λ (t : Stage). StandsAt t kept placed most stream) e s in (bad_heads-append stream piece bad.0, bad.1)
 
 pub feed-behind : (stage : Stage) (r : Reading) (kept placed : List ℕ) (most : ℕ) (stream : List ℕ) → stage ≡ Behind r
     → StandsAt stage kept placed most stream → IsBehind r placed most stream

@@ -64,6 +64,11 @@ StandsAt (Behind r) kept placed most stream = IsBehind r placed most stream
 unfoldable pub HasTaken : Load → ℕ → List ℕ → Type 0
 HasTaken load most stream = (load.most ≡ most) × StandsAt load.stage load.kept.items load.placed.items most stream
 
+-- the load is as it was: the buffer's length, how far the response is, and the octets that are kept and placed
+abbrev pub IsUnchanged : Load → Load → Type 0
+IsUnchanged old new =
+    (new.most ≡ old.most) × (new.stage ≡ old.stage) × (new.kept.items ≡ old.kept.items) × (new.placed.items ≡ old.placed.items)
+
 -- the length that the framing states, or how many octets came
 abbrev pub length_by : Framing → ℕ → ℕ
 length_by framing.Empty count = count

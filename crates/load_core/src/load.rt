@@ -1,8 +1,9 @@
 //! A response that comes in pieces: what a load finds in it, and its body, as far as that fits a buffer.
-ghost use Rattle.std.specs.Prelude.{◌≡◌, ◌+◌, ◌^◌, ◌≤◌, ◌++◌, ℕ, Bool, List, [], length, take, OnOk, IfOk};
+ghost use Rattle.std.specs.Prelude.{◌≡◌, ◌+◌, ◌^◌, ◌≤◌, ◌++◌, ℕ, Bool, List, [], length, take, OnOk, OnErr, IfOk};
+ghost use Rattle.std.specs.Io.{StartsWith};
 ghost use Rattle.wire_http.specs.Response.{IsWhole};
 ghost use Rattle.load_core.specs.Met.{IsFirstMet, HasLoadSoFar, HasNoLoad};
-ghost use Rattle.load_core.specs.Taken.{AtHeads, IsBehind, StandsAt, HasTaken};
+ghost use Rattle.load_core.specs.Taken.{AtHeads, IsBehind, IsUnchanged, StandsAt, HasTaken};
 
 use crate::heads::{Found, find_final};
 use crate::kept::keep;
@@ -47,8 +48,10 @@ fn take_heads(
     most: u32,
     placed: &mut Vec<u8>,
 ) -> Result<Stage, NoMemory>
-    ensures { (stream : List ℕ) → AtHeads kept.old.items placed.old.items stream → length stream + length piece.now ≤ 2 ^ 62
+    ensures stands { (stream : List ℕ) → AtHeads kept.old.items placed.old.items stream → length stream + length piece.now ≤ 2 ^ 62
         → IfOk result (λ stage. StandsAt stage kept.new.items placed.new.items most (stream ++ piece.now)) }
+    ensures kept { StartsWith kept.new.items kept.old.items }
+    ensures placed { StartsWith placed.new.items placed.old.items }
 {
     let before = kept.len();
     keep(kept, MOST_HEAD, piece)?;
@@ -68,6 +71,31 @@ fn take_heads(
         Found::More if heads.len() < MOST_HEAD => Ok(Stage::Heads),
         Found::More => Ok(Stage::BadHead),
         Found::Bad => Ok(Stage::BadHead),
+    }
+}
+
+/// Takes in a piece, and answers the stage behind it. What was kept and placed stays in front, also where there is no memory.
+fn take_piece(
+    stage: Stage,
+    kept: &mut Vec<u8>,
+    piece: &[u8],
+    most: u32,
+    placed: &mut Vec<u8>,
+) -> Result<Stage, NoMemory>
+    ensures stands { (stream : List ℕ) → StandsAt stage kept.old.items placed.old.items most stream
+        → length stream + length piece.now ≤ 2 ^ 62
+        → IfOk result (λ next. StandsAt next kept.new.items placed.new.items most (stream ++ piece.now)) }
+    ensures kept { StartsWith kept.new.items kept.old.items }
+    ensures placed { StartsWith placed.new.items placed.old.items }
+{
+    match stage {
+        Stage::Heads => take_heads(kept, piece, most, placed),
+        Stage::BadHead => Ok(Stage::BadHead),
+        Stage::Behind(mut reading) => {
+            let room = room_of(reading.info, most);
+            read_piece(&mut reading, piece, room, placed)?;
+            Ok(Stage::Behind(reading))
+        }
     }
 }
 
@@ -92,24 +120,33 @@ impl Load {
         }
     }
 
-    /// Takes in the next octets of the stream. Where there is no memory the load is of no more use.
+    /// Takes in the next octets of the stream. Where there is no memory the load stays as it was, and may be fed the same octets
+    /// again.
     pub fn feed(&mut self, piece: &[u8]) -> Result<(), NoMemory>
-        ensures { (most : ℕ) → (stream : List ℕ) → HasTaken self.old most stream → length stream + length piece.now ≤ 2 ^ 62
+        ensures taken { (most : ℕ) → (stream : List ℕ) → HasTaken self.old most stream → length stream + length piece.now ≤ 2 ^ 62
             → OnOk result (HasTaken self.new most (stream ++ piece.now)) }
+        ensures refused { OnErr result (IsUnchanged self.old self.new) }
+        ensures stays { (most : ℕ) → (stream : List ℕ) → HasTaken self.old most stream → OnErr result (HasTaken self.new most stream) }
     {
-        match self.stage {
-            Stage::Heads => match take_heads(&mut self.kept, piece, self.most, &mut self.placed) {
-                Ok(stage) => self.stage = stage,
-                Err(e) => return Err(e),
-            },
-            Stage::BadHead => {}
-            Stage::Behind(mut reading) => {
-                let room = room_of(reading.info, self.most);
-                read_piece(&mut reading, piece, room, &mut self.placed)?;
-                self.stage = Stage::Behind(reading);
+        let kept = self.kept.len();
+        let placed = self.placed.len();
+        match take_piece(
+            self.stage,
+            &mut self.kept,
+            piece,
+            self.most,
+            &mut self.placed,
+        ) {
+            Ok(stage) => {
+                self.stage = stage;
+                Ok(())
+            }
+            Err(e) => {
+                self.kept.truncate(kept);
+                self.placed.truncate(placed);
+                Err(e)
             }
         }
-        Ok(())
     }
 
     /// The first case that the stream meets, and None where it meets none yet; fin says that the stream is at its end.

@@ -1,5 +1,6 @@
 //! The body behind the final head: as many of its octets as fit are placed, and all are counted.
 ghost use Rattle.std.specs.Prelude.{◌≡◌, ◌≢◌, ◌+◌, ◌^◌, ◌<◌, ◌≤◌, ◌++◌, ◌⊎◌, ℕ, Bool, List, [], length, take, drop, OnOk, IfOk};
+ghost use Rattle.std.specs.Io.{StartsWith};
 ghost use Rattle.wire_http.specs.Feeding.{IsState};
 ghost use Rattle.load_core.specs.Taken.{room_of, Reads, ReadsOn};
 
@@ -76,6 +77,7 @@ fn advance(
         → IfOk result (λ n. ReadsOn reading.new most placed.new.items (rest ++ take n piece.now) octets) }
     ensures stops { (rest octets : List ℕ) → Reads reading.old rest octets → 0 < length piece.now
         → IfOk result (λ n. n ≡ 0 → reading.new.state ≢ BodyState.More) }
+    ensures front { StartsWith placed.new.items placed.old.items }
 {
     let fed = reading.body.feed(piece, room);
     reading.state = fed.state;
@@ -97,6 +99,7 @@ fn read_with(
     ensures reads { (rest octets : List ℕ) → Reads reading.old rest octets → placed.old.items ≡ take most octets
         → length rest + length piece.now ≤ 2 ^ 62
         → OnOk result (ReadsOn reading.new most placed.new.items (rest ++ piece.now) octets) }
+    ensures front { StartsWith placed.new.items placed.old.items }
 {
     let mut at = 0;
     while at < piece.len() {
@@ -120,6 +123,7 @@ pub fn read_piece(
     ensures reads { (rest octets : List ℕ) → Reads reading.old rest octets → placed.old.items ≡ take most octets
         → length rest + length piece.now ≤ 2 ^ 62
         → OnOk result (ReadsOn reading.new most placed.new.items (rest ++ piece.now) octets) }
+    ensures front { StartsWith placed.new.items placed.old.items }
 {
     let mut room = [0u8; ROOM];
     read_with(reading, piece, &mut room, most, placed)
@@ -136,6 +140,7 @@ pub fn read_first(
     ensures info { IfOk result (λ r. r.info ≡ info) }
     ensures reads { placed.old.items ≡ [] → length kept.now + length piece.now ≤ 2 ^ 62
         → IfOk result (λ r. ReadsOn r (room_of info most) placed.new.items (kept.now ++ piece.now) []) }
+    ensures front { StartsWith placed.new.items placed.old.items }
 {
     let mut reading = begin(info);
     let room = room_of(info, most);

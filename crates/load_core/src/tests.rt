@@ -9,6 +9,13 @@ use std::process::Abort;
 /// The buffer's length, the stream, whether it is at its end, what is met, and the octets placed.
 type Row<'a> = (u32, &'a [u8], bool, Option<Met>, &'a [u8]);
 
+/// Feeds a piece, and where there is no memory for it, once more.
+fn feed(rt: &impl Abort, load: &mut Load, piece: &[u8]) {
+    if load.feed(piece).is_err() {
+        load.feed(piece).expect(rt, "memory for the piece");
+    }
+}
+
 /// Feeds a stream in pieces of so many octets, and compares what is met and placed.
 fn loads(rt: &impl Abort, alloc: Global, size: usize, row: &Row)
     requires { 0 < size }
@@ -16,7 +23,7 @@ fn loads(rt: &impl Abort, alloc: Global, size: usize, row: &Row)
     let (most, stream, fin, met, body) = row;
     let mut load = Load::new(alloc, *most);
     for piece in stream.chunks(size) {
-        load.feed(piece).expect(rt, "memory for the piece");
+        feed(rt, &mut load, piece);
     }
     assert_eq!(rt; load.met(*fin), *met, "in pieces of {size}");
     assert_eq!(rt; load.body(), *body, "in pieces of {size}");
@@ -214,14 +221,14 @@ fn meets_behind(
     end: &[u8],
 ) -> Option<Met> {
     let mut load = Load::new(alloc, 9);
-    load.feed(front).expect(rt, "memory for the front");
+    feed(rt, &mut load, front);
     for _ in 0..255 {
-        load.feed(&[b'\n'; 64]).expect(rt, "memory for the blanks");
+        feed(rt, &mut load, &[b'\n'; 64]);
     }
     for _ in 0..times {
-        load.feed(b"\n").expect(rt, "memory for a blank");
+        feed(rt, &mut load, b"\n");
     }
-    load.feed(end).expect(rt, "memory for the end");
+    feed(rt, &mut load, end);
     load.met(false)
 }
 

@@ -4,11 +4,11 @@ use Rattle.wire_http.specs.Response.{HasNoHeads, HasBadHead}
 use Rattle.load_core.proofs.Standing.{kept_now, kept_short, kept_all, kept_bound, heads-final, heads-more, heads-bad}
 use Rattle.load_core.proofs.load.take_heads.Goals as goal
 
-pub returns-in-Ok : goal.returns-in-Ok
-returns-in-Ok c stream h bound =
+pub returns-in-Ok-clause-stands : goal.returns-in-Ok-clause-stands
+returns-in-Ok-clause-stands c stream h bound =
     let piece = c.args.piece.now in
     let kept = c.keep.new.kept.items in
-    let k = c.in_ok-keep.ensures stream (kept_now c.args.kept.now.items c.args.placed.now.items stream h) in
+    let k = c.in_ok-keep.ensures.kept stream (kept_now c.args.kept.now.items c.args.placed.now.items stream h) in
     let heads = c.most_heads-heads.result.now in
     let whole = c.most_heads-heads.ensures.all
     (subst (λ (t : List ℕ). length t ≤ 16384) (sym c.as_slice.ensures.value) (kept_short kept stream piece k)) ∙ c.as_slice.ensures.value in
@@ -19,11 +19,11 @@ returns-in-Ok c stream h bound =
     c.in-Final.ensures.last c.in-Ok.ensures.info
     (c.in-Ok.ensures.reads h.placed_is (kept_bound stream piece heads taken c.in-Final.len _ all bound))
 
-pub returns-in-More : goal.returns-in-More
-returns-in-More c stream h bound =
+pub returns-in-More-clause-stands : goal.returns-in-More-clause-stands
+returns-in-More-clause-stands c stream h bound =
     let piece = c.args.piece.now in
     let kept = c.keep.new.kept.items in
-    let k = c.in_ok-keep.ensures stream (kept_now c.args.kept.now.items c.args.placed.now.items stream h) in
+    let k = c.in_ok-keep.ensures.kept stream (kept_now c.args.kept.now.items c.args.placed.now.items stream h) in
     let whole = c.most_heads-heads.ensures.all
     (subst (λ (t : List ℕ). length t ≤ 16384) (sym c.as_slice.ensures.value) (kept_short kept stream piece k)) ∙ c.as_slice.ensures.value in
     let none = subst HasNoHeads whole (c.in-More.ensures.no refl) in
@@ -31,11 +31,11 @@ returns-in-More c stream h bound =
     let short = subst (λ (t : List ℕ). length t < 16384) whole c.if-heads-lt-MOST_HEAD.true in
     heads-more stream piece kept c.args.placed.now.items k short none may h.placed_is
 
-pub returns-in-More-2 : goal.returns-in-More-2
-returns-in-More-2 c stream h bound =
+pub returns-in-More-2-clause-stands : goal.returns-in-More-2-clause-stands
+returns-in-More-2-clause-stands c stream h bound =
     let piece = c.args.piece.now in
     let kept = c.keep.new.kept.items in
-    let k = c.in_ok-keep.ensures stream (kept_now c.args.kept.now.items c.args.placed.now.items stream h) in
+    let k = c.in_ok-keep.ensures.kept stream (kept_now c.args.kept.now.items c.args.placed.now.items stream h) in
     let heads = c.most_heads-heads.result.now in
     let whole = c.most_heads-heads.ensures.all
     (subst (λ (t : List ℕ). length t ≤ 16384) (sym c.as_slice.ensures.value) (kept_short kept stream piece k)) ∙ c.as_slice.ensures.value in
@@ -44,11 +44,11 @@ returns-in-More-2 c stream h bound =
     (omega (arith, c.min-taken.ensures, c.saturating_sub.ensures, c.len.ensures, c.len-before.ensures, ap length whole, ap length h.kept_is)) in
     (heads-bad stream piece heads taken all (inr (c.if-heads-lt-MOST_HEAD.false, c.in-More.ensures.no refl)), h.placed_is)
 
-pub returns-in-Bad : goal.returns-in-Bad
-returns-in-Bad c stream h bound =
+pub returns-in-Bad-clause-stands : goal.returns-in-Bad-clause-stands
+returns-in-Bad-clause-stands c stream h bound =
     let piece = c.args.piece.now in
     let kept = c.keep.new.kept.items in
-    let k = c.in_ok-keep.ensures stream (kept_now c.args.kept.now.items c.args.placed.now.items stream h) in
+    let k = c.in_ok-keep.ensures.kept stream (kept_now c.args.kept.now.items c.args.placed.now.items stream h) in
     let heads = c.most_heads-heads.result.now in
     let whole = c.most_heads-heads.ensures.all
     (subst (λ (t : List ℕ). length t ≤ 16384) (sym c.as_slice.ensures.value) (kept_short kept stream piece k)) ∙ c.as_slice.ensures.value in

@@ -18,7 +18,7 @@ returns-clause-reads c rest octets h placed bound =
         count = counted f rest octets c.args.piece.now more c.feed-fed.result.read c.args.reading.now.count c.feed-fed.result.placed
             c.saturating_add-reading.result so_far long h.count bound (λ fits. omega (arith, c.saturating_add-reading.ensures, fits));
       },
-      c.in_ok-keep.ensures octets placed,
+      c.in_ok-keep.ensures.kept octets placed,
     )
 
 pub returns-clause-stops : goal.returns-clause-stops

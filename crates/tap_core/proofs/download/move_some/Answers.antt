@@ -23,5 +23,5 @@ returns-in-Ok-clause-carries c = λ most board h.
     record {
       given = h.given ++ take n ready;
       stands = c.take-count.ensures.stands board h.given h.stands;
-      taken = subst (λ l. HasTaken c.feed.new.self most (h.given ++ l)) moved (c.in-Ok.ensures most h.given h.taken fits);
+      taken = subst (λ l. HasTaken c.feed.new.self most (h.given ++ l)) moved (c.in-Ok.ensures.taken most h.given h.taken fits);
     }

@@ -1,38 +1,28 @@
--- By the stage.
-use Rattle.std.proofs.Common.{◌≡◌, ◌++◌, ℕ, take, sym, ap, ◌∙◌, subst}
-use Rattle.load_core.specs.Taken.{StandsAt, HasTaken, room_of, ReadsOn}
-use Rattle.load_core.proofs.Standing.{feed-heads, feed-bad, feed-behind, behind-bound, behind-on}
+-- The stage behind the piece; where there is no memory, what was there before.
+use Rattle.std.proofs.Common.{◌≡◌, ◌++◌, ℕ, List, take, sym, ap, ◌∙◌, subst, arith}
+use Rattle.load_core.specs.Taken.{StandsAt, HasTaken}
 use Rattle.load_core.proofs.load.Load.feed.Goals as goal
 
-pub returns-in-Ok : goal.returns-in-Ok
+pub returns-in-Ok-clause-taken : goal.returns-in-Ok-clause-taken
 unfolding HasTaken
-returns-in-Ok c most stream h bound =
+returns-in-Ok-clause-taken c most stream h bound =
     let load = c.args.self.now in
-    let at = feed-heads load.stage load.kept.items load.placed.items most stream c.in-Heads.is h.1 in (
+    let at = subst (λ (m : ℕ). StandsAt load.stage load.kept.items load.placed.items m stream) (sym h.0) h.1 in (
       h.0,
-      subst (λ (m : ℕ). StandsAt c.in-Ok.stage c.take_heads.new.kept.items c.take_heads.new.placed.items m (stream ++ c.args.piece.now)) h.0
-          (c.in-Ok.ensures stream at bound),
+      subst (λ (m : ℕ). StandsAt c.in-Ok.stage c.take_piece.new.kept.items c.take_piece.new.placed.items m (stream ++ c.args.piece.now)) h.0
+          (c.in-Ok.ensures.stands stream at bound),
     )
 
-pub returns-in-BadHead : goal.returns-in-BadHead
+pub returns-in-Err-clause-stays : goal.returns-in-Err-clause-stays
 unfolding HasTaken
-returns-in-BadHead c most stream h bound =
+returns-in-Err-clause-stays c most stream h =
     let load = c.args.self.now in
-    (h.0, feed-bad load.stage load.kept.items load.placed.items most stream c.args.piece.now c.in-BadHead.is h.1)
-
-pub returns-in_ok-read_piece-in-Behind : goal.returns-in_ok-read_piece-in-Behind
-unfolding HasTaken
-returns-in_ok-read_piece-in-Behind c most stream h bound =
-    let load = c.args.self.now in
-    let piece = c.args.piece.now in
-    let r = c.in-Behind.reading in
-    let now = c.read_piece.new.reading in
-    let after = c.read_piece.new.placed.items in
-    let b = feed-behind load.stage r load.kept.items load.placed.items most stream c.in-Behind.is h.1 in
-    let room : c.room_of-room.result ≡ room_of r.info most = c.room_of-room.ensures ∙ ap (room_of r.info) h.0 in
-    let on = c.in_ok-read_piece-in-Behind.ensures.reads b.rest b.octets b.reads
-    (b.placed_is ∙ ap (λ (n : ℕ). take n b.octets) (sym room)) (behind-bound r load.placed.items most stream piece _ b bound) in (
+    let grown = c.take_piece.new in
+    let kept : c.truncate.new.self.items ≡ load.kept.items =
+    c.truncate.ensures.items ∙ ap (λ (n : ℕ). take n grown.kept.items) (omega (arith, c.len-kept.ensures)) ∙ c.take_piece.ensures.kept in
+    let placed : c.truncate-in-Err.new.self.items ≡ load.placed.items =
+    c.truncate-in-Err.ensures.items ∙ ap (λ (n : ℕ). take n grown.placed.items) (omega (arith, c.len-placed.ensures)) ∙ c.take_piece.ensures.placed in (
       h.0,
-      behind-on r now load.placed.items after most stream piece b c.in_ok-read_piece-in-Behind.ensures.info
-          (subst (λ (n : ℕ). ReadsOn now n after (b.rest ++ piece) b.octets) room on),
+      subst (λ (t : List ℕ). StandsAt load.stage t c.truncate-in-Err.new.self.items most stream) (sym kept)
+          (subst (λ (t : List ℕ). StandsAt load.stage load.kept.items t most stream) (sym placed) h.1),
     )

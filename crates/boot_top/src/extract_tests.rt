@@ -18,7 +18,7 @@ use crate::capture_tests::{Form, Writer, begun};
 use crate::frame_tests::joined;
 use crate::sent_tests::{Plan, put_step};
 use crate::step_tests::step_of;
-use crate::text_tests::{field_of, number_of, octets_of, word_of};
+use crate::text_tests::{field_of, number_of, octets_of, rows_of, word_of};
 use crate::{BAD_INPUT, ENDED_OTHERWISE, SUCCESS, run};
 use efi_base::{DropSink, MemSink, MemSource};
 use std::alloc::{AllocError, Global};
@@ -54,18 +54,9 @@ pub(crate) fn check_rows<R: Abort + AllocGlobal>(
     table: &str,
     count: usize,
 ) -> Result<(), Fail> {
-    let Some((before, table)) = table.split_once('#') else {
-        return Err(Fail::new("a table without a row"));
-    };
-    if !are_known(before, "") {
-        return Err(Fail::new("text in front of a table's first row"));
-    }
-    let mut rows = 0usize;
-    for text in table.split('#') {
+    for text in &rows_of(rt.alloc(), table, count)? {
         check_row(rt, text)?;
-        rows = rows.wrapping_add(1);
     }
-    assert_eq!(rt; rows, count, "rows of the table");
     Ok(())
 }
 

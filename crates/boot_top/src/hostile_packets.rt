@@ -158,6 +158,18 @@ gives 0 | 0123456789 | 49 open | success 10 | 2036 sent 1 heard 1018
 # thousands of fragments before and in the download
 send flood-more 1000 3000 0 8 | ask | accept 0 | cut 0 20 | flood-more 5000 3000 8 16 | cut 20 49
 gives 0 | 0123456789 | 49 open | success 10 | 12006 sent 1 heard 6003
+# a fragment in front of what asks, within its thirty seconds
+send more 9 0 40 | wait 29992 | ask | accept 0 | end 9 40 69
+gives 0 | 0123456789 | 49 open | success 10 | 29998 sent 1 heard 3
+# one whose thirty seconds are over
+send more 9 0 40 | wait 29994 | ask | accept 0 | end 9 40 69
+gives 1 | | 0 open | out-of-time | 30000 sent 1 heard 3
+# one in front of others that are never whole
+send more 9 0 40 | flood-more 1000 3000 0 8 | ask | accept 0 | end 9 40 69
+gives 0 | 0123456789 | 49 open | success 10 | 6006 sent 1 heard 3003
+# one behind sixteen that are open
+send flood-more 1000 16 0 8 | more 9 0 40 | ask | accept 0 | end 9 40 69
+gives 1 | | 0 open | out-of-time | 38 sent 1 heard 19
 # sixteen that stay open for thirty seconds
 send ask | accept 0 | flood-more 100 16 0 8 | wait 29966 | in-fragments 0 49
 gives 1 | | 0 open | out-of-time | 30010 sent 1 heard 22
@@ -184,5 +196,5 @@ fn answers_to_options(rt: HostRuntime) -> Result<(), Fail> {
 
 #[test]
 fn answers_to_fragments(rt: HostRuntime) -> Result<(), Fail> {
-    check_rows(&rt, FRAGMENTS, 19)
+    check_rows(&rt, FRAGMENTS, 23)
 }

@@ -11,7 +11,7 @@
 //! gives the status | what is written
 //! ```
 use crate::extract_tests::{answer_of, are_known, check_told, line_of, line_or, run_over};
-use crate::text_tests::{field_of, number_of, octets_of};
+use crate::text_tests::{field_of, number_of, octets_of, rows_of};
 use crate::{BAD_WORDS, NOT_BUILT};
 use efi_base::{MemSink, MemSource};
 use std::alloc::Global;
@@ -219,15 +219,9 @@ fn check<R: Abort + AllocGlobal>(rt: &R, text: &str) -> Result<(), Fail> {
 }
 
 fn check_runs<R: Abort + AllocGlobal>(rt: &R, table: &str, count: usize) -> Result<(), Fail> {
-    let Some((_, table)) = table.split_once('#') else {
-        return Err(Fail::new("a table without a run"));
-    };
-    let mut runs = 0usize;
-    for text in table.split('#') {
+    for text in &rows_of(rt.alloc(), table, count)? {
         check(rt, text)?;
-        runs = runs.wrapping_add(1);
     }
-    assert_eq!(rt; runs, count, "runs of the table");
     Ok(())
 }
 

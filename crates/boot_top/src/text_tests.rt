@@ -1,7 +1,31 @@
-//! The small parts of the text that captures for tests are written in: words, numbers and octets. Where a text isn't of the form
+//! The small parts of the text that captures for tests are written in: rows, words, numbers and octets. Where a text isn't of the form
 //! there is none, or the test fails.
 use std::alloc::Global;
 use std::test::Fail;
+
+/// The rows of a table, each behind a `#`, of which there are so many.
+pub(crate) fn rows_of(alloc: Global, table: &str, count: usize) -> Result<Vec<&str>, Fail> {
+    let Some((before, table)) = table.split_once('#') else {
+        return Err(Fail::new("a table without a row"));
+    };
+    if !before.lines().all(is_note) {
+        return Err(Fail::new("text in front of a table's first row"));
+    }
+    let mut rows = Vec::new(alloc);
+    for row in table.split('#') {
+        rows.push(row)?;
+    }
+    if rows.len() != count {
+        return Err(Fail::new("a table of another number of rows"));
+    }
+    Ok(rows)
+}
+
+/// A line without a word, or a note.
+pub(crate) fn is_note(line: &str) -> bool {
+    let line = line.trim();
+    line.is_empty() || line.starts_with("//")
+}
 
 /// The first word, and what stands behind the blank.
 pub(crate) fn word_of(text: &str) -> (&str, &str) {

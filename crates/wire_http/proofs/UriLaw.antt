@@ -31,6 +31,9 @@ pub text_of : (text : List ℕ) → IsUtf8 text → uri_of text ≡ taken (parse
 text_of text valid =
     ap (λ (t : Bool). cond t (taken (parse_url None text)) (Err fault.Bad)) (is_utf8-from_IsUtf8 text valid)
 
+pub valid_is_text : (text : List ℕ) → IsUtf8 text → ¬ (is_utf8 text ≡ false)
+valid_is_text text valid wrong = grind (arith, is_utf8-from_IsUtf8 text valid, wrong)
+
 pub no_text : (text : List ℕ) → ¬ (IsUtf8 text) → uri_of text ≡ Err fault.Bad
 no_text text wrong = by_test (is_utf8 text) refl
   where

@@ -5,6 +5,8 @@ use Rattle.std.specs.Prelude.{◌≡◌, ◌⊎◌, ℕ, ◌*◌, ◌^◌, Bool,
 use Rattle.std.specs.Option.{option_eq}
 use Rattle.std.specs.Str.{is_utf8}
 use Rattle.std.specs.Net.Addr.{ipv4_bits}
+use Rattle.url.specs.declared.error.ParseError.{ParseError}
+use Rattle.url.specs.declared.error.ParseError.TheVariants.{EmptyHost, IdnaError, InvalidPort, InvalidIpv4Address, InvalidIpv6Address, InvalidDomainCharacter, RelativeUrlWithoutBase, RelativeUrlWithCannotBeABaseBase, SetHostOnCannotBeABaseUrl, Overflow, CannotSet, OutOfMemory}
 use Rattle.url.specs.declared.host.Host as url_host
 use Rattle.url.specs.declared.host.Host.TheVariants.{Domain, Ipv4, Ipv6}
 use Rattle.url.specs.Parts.{Parts}
@@ -43,6 +45,26 @@ unless_refused (Some cause) url = Err cause
 abbrev pub taken : Parsed Parts → Result Parts UriFault
 taken (Ok url) = unless_refused (refusal_of url) url
 taken (Err error) = Err fault.Bad
+
+-- want of memory is told as such, and every other cause of the parser as a bad URL
+abbrev pub fault_of : ParseError → UriFault
+fault_of EmptyHost = fault.Bad
+fault_of IdnaError = fault.Bad
+fault_of InvalidPort = fault.Bad
+fault_of InvalidIpv4Address = fault.Bad
+fault_of InvalidIpv6Address = fault.Bad
+fault_of InvalidDomainCharacter = fault.Bad
+fault_of RelativeUrlWithoutBase = fault.Bad
+fault_of RelativeUrlWithCannotBeABaseBase = fault.Bad
+fault_of SetHostOnCannotBeABaseUrl = fault.Bad
+fault_of Overflow = fault.OutOfResources
+fault_of CannotSet = fault.Bad
+fault_of OutOfMemory = fault.OutOfResources
+
+-- what is answered to what the parser made of a text
+abbrev pub answer_to : Parsed Parts → Result Parts UriFault
+answer_to (Ok url) = unless_refused (refusal_of url) url
+answer_to (Err error) = Err (fault_of error)
 
 -- the URI that the octets write, or why they write none; octets that aren't UTF-8 are no URL
 abbrev pub uri_of : List ℕ → Result Parts UriFault

@@ -1,9 +1,10 @@
 //! URIs that a load can be asked for (RFC 9110, section 4.2.1). What a text means as a URL is the parser's of the crate
 //! `url`.
-ghost use Rattle.std.specs.Prelude.{◌≡◌, ◌≢◌, ◌≤◌, ◌^◌, length, None, Some, Ok, Err, IfOk, IfErr, MatchResult, ◌⊎◌};
+ghost use Rattle.std.specs.Prelude.{◌≡◌, ◌≢◌, ◌≤◌, ◌^◌, false, length, None, Some, Ok, Err, IfOk, IfErr, MatchResult, ◌⊎◌};
+ghost use Rattle.std.specs.Str.{is_utf8};
 ghost use Rattle.url.specs.Parts.{Parts};
 ghost use Rattle.url.specs.Parser.{parse_url};
-ghost use Rattle.wire_http.specs.Uris.{uri_of, taken, AnswersUri, refusal_of, is_plain_host, is_unicast, host_of, port_of};
+ghost use Rattle.wire_http.specs.Uris.{uri_of, taken, answer_to, fault_of, AnswersUri, refusal_of, is_plain_host, is_unicast, host_of, port_of};
 
 use crate::hosts::{Host, Name, is_host_name};
 use crate::uri_fault::UriFault;
@@ -102,7 +103,7 @@ fn refusal_of(url: &Url) -> Option<UriFault>
 }
 
 fn take(url: Url) -> Result<Uri, UriFault>
-    ensures { AnswersUri result (taken (Ok url)) }
+    ensures { result ≡ taken (Ok url) }
 {
     match refusal_of(&url) {
         Some(fault) => Err(fault),
@@ -110,18 +111,34 @@ fn take(url: Url) -> Result<Uri, UriFault>
     }
 }
 
-fn parse(alloc: Global, text: &str) -> Result<Uri, UriFault>
-    ensures { AnswersUri result (taken (parse_url None text.now)) }
+fn fault_of(error: ParseError) -> UriFault
+    ensures { result ≡ fault_of error }
 {
-    match Url::parse(alloc, text) {
-        Ok(url) => take(url),
-        Err(ParseError::OutOfMemory | ParseError::Overflow) => Err(UriFault::OutOfResources),
-        Err(_) => Err(UriFault::Bad),
+    match error {
+        ParseError::OutOfMemory | ParseError::Overflow => UriFault::OutOfResources,
+        _ => UriFault::Bad,
     }
 }
 
+/// What is answered to what the parser made.
+fn answer_to(parsed: Result<Url, ParseError>) -> Result<Uri, UriFault>
+    ensures { result ≡ answer_to parsed }
+{
+    match parsed {
+        Ok(url) => take(url),
+        Err(error) => Err(fault_of(error)),
+    }
+}
+
+fn parse(alloc: Global, text: &str) -> Result<Uri, UriFault>
+    ensures { AnswersUri result (taken (parse_url None text.now)) }
+{
+    answer_to(Url::parse(alloc, text))
+}
+
 fn decode(alloc: Global, text: &[u8]) -> Result<Uri, UriFault>
-    ensures { AnswersUri result (uri_of text.now) }
+    ensures answers { AnswersUri result (uri_of text.now) }
+    ensures no_text { is_utf8 text.now ≡ false → result ≡ Err UriFault.Bad }
 {
     match str::from_utf8(text) {
         Ok(text) => parse(alloc, text),
@@ -129,7 +146,7 @@ fn decode(alloc: Global, text: &[u8]) -> Result<Uri, UriFault>
     }
 }
 
-/// Reads the URI that a text writes.
+/// Reads the URI that a text writes. Octets that aren't UTF-8 are told as a bad URL, whatever memory there is.
 pub fn read_uri(alloc: Global, text: &[u8]) -> Result<Uri, UriFault>
     requires { length text.now ≤ 2 ^ 16 }
     ensures taken { IfOk result (λ uri. uri_of text.now ≡ Ok uri) }
@@ -138,6 +155,7 @@ pub fn read_uri(alloc: Global, text: &[u8]) -> Result<Uri, UriFault>
         → MatchResult result (λ read. read ≡ uri) (λ fault. fault ≡ UriFault.OutOfResources) }
     ensures bad { (cause : UriFault) → uri_of text.now ≡ Err cause
         → MatchResult result (λ read. ⊥) (λ fault. (fault ≡ UriFault.OutOfResources) ⊎ (fault ≡ cause)) }
+    ensures no_text { is_utf8 text.now ≡ false → result ≡ Err UriFault.Bad }
 {
     decode(alloc, text)
 }

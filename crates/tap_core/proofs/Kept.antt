@@ -1,10 +1,10 @@
 -- What kept fragments leave open to a station is what all records leave open to it.
 use Rattle.std.proofs.Common.{◌≡◌, ℕ, ◌+◌, ◌-◌, ◌<◌, ◌≤◌, max, Bool, true, false, ◌&&◌, List, [], ◌∷◌, ◌++◌, filter, fold, take, get_or, length, All, Option, Some, None, is_some, refl, sym, ap, subst, ◌∙◌, inl, inr, arith, rules, if◌then◌else◌}
 use Rattle.std.specs.Option.{option_map_or}
-use Rattle.std.proofs.Math.Nat.{max-eq_left, max-eq_right}
+use Rattle.std.proofs.Math.Nat.{max-eq_left, max-eq_right, le-max_left, le-max_right}
 use Rattle.std.proofs.lemmas.Bool.{cases_lt, lt-ltb, le-ltb, ltb-true}
 use Rattle.std.proofs.lemmas.List.{take_more}
-use Rattle.std.proofs.lemmas.List.Elements.{All-head, All-tail, All-cons, All-filter}
+use Rattle.std.proofs.lemmas.List.Elements.{All-head, All-tail, All-cons, All-append, All-filter}
 use Rattle.std.proofs.lemmas.List.Sums.{fold-append}
 use Rattle.efi_base.specs.declared.plain.Record.{Record}
 use Rattle.wire_ip4.specs.Packet.{Packet, packet_of, is_fragment}
@@ -14,7 +14,7 @@ use Rattle.ip_core.specs.Datagrams.{after_event}
 use Rattle.ip_core.specs.Frames.{event_at, packet_in_frame}
 use Rattle.tap_core.specs.declared.early.Fragment.{Fragment}
 use Rattle.tap_core.specs.declared.early.Fragments.{Fragments}
-use Rattle.tap_core.specs.Early.{holds_fragment, after_kept, pools_left, IsLatest}
+use Rattle.tap_core.specs.Early.{holds_fragment, after_kept, latest_of, pools_left, HasFragments}
 use Rattle.tap_core.specs.Frames.{is_sent, heard_packet}
 use Rattle.tap_core.specs.Hearing.{event_heard}
 use Rattle.tap_core.specs.Openings.{Opening}
@@ -38,8 +38,9 @@ lasts-before a b p h l = lt-ltb (a - p.opened) lifetime (omega (arith, h, ltb-tr
 
 lasts-both : (a b : ℕ) (p : Pool Bytes) → lasts (max a b) p ≡ (lasts a p && lasts b p)
 lasts-both a b p = elim (cases_lt a b) [
-  inl l ↦ ap (λ m. lasts m p) (max-eq_right (omega (arith, l))) ∙ and-right (lasts a p) (lasts b p) (lasts-before a b p (omega (arith, l)))
-  | inr h ↦ ap (λ m. lasts m p) (max-eq_left h) ∙ and-left (lasts a p) (lasts b p) (lasts-before b a p h) ]
+  | inl l ↦ ap (λ m. lasts m p) (max-eq_right (omega (arith, l))) ∙ and-right (lasts a p) (lasts b p) (lasts-before a b p (omega (arith, l)))
+  | inr h ↦ ap (λ m. lasts m p) (max-eq_left h) ∙ and-left (lasts a p) (lasts b p) (lasts-before b a p h)
+]
 
 twice-step : (p : Pool Bytes → Bool) (x : Pool Bytes) (ys zs : List (Pool Bytes)) (bp bq br : Bool) → p x ≡ bp → br ≡ (bp && bq) → filter p ys ≡ zs
     → filter p (if bq then x ∷ ys else ys) ≡ (if br then x ∷ zs else zs)
@@ -124,12 +125,48 @@ folded-by o m pools (k ∷ kept) opened by =
     (All-filter (lasts k.passed.0) (opened-by m) pools opened))
     (All-tail (kept-by m) k kept by)
 
+abbrev later-of : ℕ → Fragment → ℕ
+later-of m k = max m k.record.tick.0
+
+latest-grows : (m : ℕ) (kept : List Fragment) → m ≤ fold later-of m kept
+latest-grows m [] = omega arith
+latest-grows m (k ∷ kept) = omega (arith, le-max_left m k.record.tick.0, latest-grows (later-of m k) kept)
+
+latest-from : (m : ℕ) (kept : List Fragment) → All (kept-by (fold later-of m kept)) kept
+latest-from m [] = all-nil (kept-by m)
+latest-from m (k ∷ kept) =
+    All-cons (kept-by (fold later-of (later-of m k) kept)) k kept
+    (omega (arith, le-max_right m k.record.tick.0, latest-grows (later-of m k) kept))
+    (latest-from (later-of m k) kept)
+
+-- no kept fragment is later than the latest one
+latest-all : (f : Fragments) → HasFragments f → All (kept-by f.latest.0) f.kept.items
+latest-all f h = subst (λ m. All (kept-by m) f.kept.items) (sym h.latest_is) (latest-from 0 f.kept.items)
+
 -- once the time of the latest fragment's pool is over, none is open
-pub left-fades : (o : Opening) (f : Fragments) (now : ℕ) → lifetime ≤ now - f.latest.0 → IsLatest f → open_at now (pools_left o f) ≡ []
-left-fades o f now h latest =
+pub left-fades : (o : Opening) (f : Fragments) (now : ℕ) → lifetime ≤ now - f.latest.0 → HasFragments f → open_at now (pools_left o f) ≡ []
+left-fades o f now h fragments =
     fades f.latest.0 now (pools_left o f) h
     (All-filter (lasts f.passed.0) (opened-by f.latest.0) (fold (after_kept o) [] f.kept.items)
-    (folded-by o f.latest.0 [] f.kept.items (all-nil (opened-by f.latest.0)) latest))
+    (folded-by o f.latest.0 [] f.kept.items (all-nil (opened-by f.latest.0)) (latest-all f fragments)))
+
+abbrev is-holding : Fragment → Type 0
+is-holding k = holds_fragment k.record.frame ≡ true
+
+-- with one fragment more
+pub fragments-next : (f g : Fragments) (k : Fragment) → HasFragments f → holds_fragment k.record.frame ≡ true → g.kept.items ≡ f.kept.items ++ k ∷ []
+    → g.latest.0 ≡ max f.latest.0 k.record.tick.0 → HasFragments g
+fragments-next f g k h here items latest = record {
+  holding = subst (All is-holding) (sym items) (All-append is-holding f.kept.items (k ∷ []) h.holding (All-cons is-holding k [] here (all-nil is-holding)));
+  latest_is = latest ∙ ap (λ m. max m k.record.tick.0) h.latest_is ∙ sym (fold-append later-of 0 f.kept.items (k ∷ [])) ∙ ap latest_of (sym items);
+}
+
+-- no fragment
+pub fragments-none : (f : Fragments) → f.kept.items ≡ [] → f.latest.0 ≡ 0 → HasFragments f
+fragments-none f items latest = record {
+  holding = subst (All is-holding) (sym items) (all-nil is-holding);
+  latest_is = latest ∙ ap latest_of (sym items);
+}
 
 -- an event sees the pools that are open at its tick
 pub event-same : (now : ℕ) (a b : List (Pool Bytes)) (p : Option Packet) → open_at now a ≡ open_at now b

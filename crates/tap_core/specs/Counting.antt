@@ -15,11 +15,11 @@ pub record Counted (opening : Option Opening) (records : List Record) (c : Count
   pub heard_is : c.heard ≡ heard_count opening records
   pub tick_is : c.tick.0 ≡ last_tick records
 
--- the count of a sender, by its Ethernet address
+-- the count of a sender, by its Ethernet address: 0 where it has none
 abbrev pub sent_of : BTreeMap (List ℕ) ℕ → List ℕ → ℕ
 sent_of counts station = unwrap_or (get (slice_cmp nat_cmp) counts station) 0
 
--- these are the counts of the records whoever is the station, their number, and the tick of the last one
+-- how many of the records each station sent, how many there are (those that it didn't send it heard), and the tick of the last one
 pub record Tallies (records : List Record) (t : Tally) : Type 0 where
   pub sent_is : (station : List ℕ) → sent_of t.sent station ≡ length (filter (sent_by station) records)
   pub all_is : t.all ≡ length records

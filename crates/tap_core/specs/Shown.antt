@@ -16,6 +16,7 @@ last_tick records = option_map_or (λ r. r.tick.0) (slice_get records (length re
 abbrev pub sent_by : List ℕ → Record → Bool
 sent_by station r = is_sent station r.frame
 
+-- the others it heard, also frames too short for an Ethernet header
 abbrev pub heard_by : List ℕ → Record → Bool
 heard_by station r = not (sent_by station r)
 
@@ -24,7 +25,7 @@ abbrev pub sent_count : Option Opening → List Record → ℕ
 sent_count None records = 0
 sent_count (Some o) records = length (filter (sent_by o.station) records)
 
--- the others it heard
+-- how many it heard: all where no station is known
 abbrev pub heard_count : Option Opening → List Record → ℕ
 heard_count None records = length records
 heard_count (Some o) records = length (filter (heard_by o.station) records)

@@ -1,4 +1,5 @@
--- What a tap stands for that has heard records one after the other. No list of them is kept.
+-- What a tap stands for that has heard records one after the other. Of them fragments alone are kept, and these only until one
+-- asks for a connection.
 use Rattle.std.specs.Prelude.{◌≡◌, ℕ, ◌<◌, false, List, [], Option, Some, None, All, vec_len}
 use Rattle.efi_base.specs.declared.plain.Record.{Record}
 use Rattle.wire_l4.specs.Segment.{Segment}
@@ -28,7 +29,7 @@ pub record IsWaiting (records : List Record) (w : Waiting) : Type 0 where
   pub early : KeepsFragments records w.early
   pub tally : Tallies records w.tally
 
--- the station has heard the records: the pools are those that they left open, the counts theirs
+-- the station has heard the records: the pools are those that the records leave open to it, and the counts are the records'
 pub record Listens (records : List Record) (l : Listener) : Type 0 where
   pub pools : l.reasm ≡ pools_from (syn_seen l.syn) [] records
   pub counts : Counted (Some (syn_seen l.syn)) records l.counts
@@ -57,7 +58,7 @@ pub record IsEnded (most : ℕ) (records : List Record) (s : Seen) : Type 0 wher
   pub shows : ShowsEnd most records telling
   pub seen : IsSeenOf most telling s
 
--- a stage stands for the records
+-- a stage stands for the records; once memory was refused it stands for none
 abbrev pub StandsFor : ℕ → List Record → Stage → Type 0
 StandsFor most records (Opening w) = IsWaiting records w
 StandsFor most records (Answering l) = IsAnswering records l

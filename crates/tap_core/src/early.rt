@@ -1,11 +1,11 @@
 //! The fragments in front of the segment that asks for a connection. Which station hears them shows only with that segment,
 //! so they are kept until then, and no longer than some station's pools may hold them. No other record is.
-ghost use Rattle.std.specs.Prelude.{◌≡◌, ◌∷◌, ◌++◌, [], List, IfOk, OnOk, max};
+ghost use Rattle.std.specs.Prelude.{◌≡◌, ◌≤◌, ◌∷◌, ◌++◌, [], true, List, IfOk, OnOk, max};
 ghost use Rattle.efi_base.specs.declared.plain.Record.{Record};
 ghost use Rattle.ip_core.specs.Bytes.{bytes_kept};
 ghost use Rattle.ip_core.specs.Datagrams.{after_event};
 ghost use Rattle.ip_core.specs.Pools.{open_at};
-ghost use Rattle.tap_core.specs.Early.{IsLatest, KeepsFragments, pools_left};
+ghost use Rattle.tap_core.specs.Early.{AreRecent, HasFragments, KeepsFragments, holds_fragment, pools_left};
 ghost use Rattle.tap_core.specs.Hearing.{event_heard};
 ghost use Rattle.tap_core.specs.Openings.{Opening};
 ghost use Rattle.tap_core.specs.Seen.{syn_seen};
@@ -61,24 +61,27 @@ impl Fragments {
     /// Keeps a fragment.
     fn keep(&mut self, record: Record) -> Result<(), NoMemory>
         ensures left { OnOk result ((o : Opening) → pools_left o self.new ≡ after_event bytes_kept (pools_left o self.old) (event_heard o «record»)) }
-        ensures latest { IsLatest self.old → OnOk result (IsLatest self.new) }
+        ensures fragments { HasFragments self.old → holds_fragment «record».frame ≡ true → OnOk result (HasFragments self.new) }
+        ensures latest { OnOk result («record».tick.0 ≤ self.new.latest.0) }
     {
         let tick = record.tick;
         let passed = self.passed;
         push(&mut self.kept, Fragment { passed, record })?;
         self.passed = Tick(0);
-        self.latest = later(tick, self.latest);
+        self.latest = later(self.latest, tick);
         Ok(())
     }
 
     /// Forgets the fragments once no station's pools can hold one at this tick.
     fn fade(&mut self, now: Tick)
-        ensures left { IsLatest self.old → (o : Opening) → open_at now.0 (pools_left o self.new) ≡ open_at now.0 (pools_left o self.old) }
-        ensures latest { IsLatest self.old → IsLatest self.new }
+        ensures left { HasFragments self.old → (o : Opening) → open_at now.0 (pools_left o self.new) ≡ open_at now.0 (pools_left o self.old) }
+        ensures fragments { HasFragments self.old → HasFragments self.new }
+        ensures recent { AreRecent now.0 self.new }
     {
         if now.0.saturating_sub(self.latest.0) >= LIFETIME {
             self.kept.clear();
             self.passed = Tick(0);
+            self.latest = Tick(0);
         }
     }
 

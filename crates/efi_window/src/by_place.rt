@@ -1,12 +1,12 @@
 //! The window.
-ghost use Rattle.std.specs.Prelude.{◌≡◌, ◌+◌, ◌-◌, ◌^◌, ◌<◌, ◌≤◌, ◌++◌, [], ℕ, min, length, take, drop, IfOk, is_none, false, vec_len, ◌*◌};
+ghost use Rattle.std.specs.Prelude.{◌≡◌, ◌+◌, ◌-◌, ◌^◌, ◌<◌, ◌≤◌, ◌++◌, [], ℕ, min, length, take, drop, IfOk, is_none, true, false, None, get_or, vec_len, ◌*◌};
 ghost use Rattle.std.specs.Vec.{vec_capacity};
 ghost use Rattle.efi_window.specs.Kept.{is_kept};
 ghost use Rattle.std.specs.List.{list_all};
 ghost use Rattle.efi_window.specs.Places.{Places, fresh, ready_of, after_put, after_take};
 
 use crate::bits::WORD;
-use crate::ring::{copy, free, put, reach, run};
+use crate::ring::{copy, free, octet, put, reach, run};
 use efi_base::NoMemory;
 use std::alloc::Global;
 use std::marker::Model;
@@ -146,6 +146,45 @@ impl Window {
         ) == left
     }
 
+    /// Whether two windows keep the same octets at the same places, counted from the first one that wasn't taken.
+    pub fn holds_same(&self, other: &Window) -> bool
+        ensures same { result ≡ true → self.now.held ≡ other.now.held }
+        ensures differs { self.now.held ≡ other.now.held → result ≡ true }
+    {
+        let len = self.len();
+        if len != other.len() {
+            return false;
+        }
+        let mut behind = 0;
+        while behind < len {
+            if !is_same(self.slot(behind), other.slot(behind)) {
+                return false;
+            }
+            behind += 1;
+        }
+        true
+    }
+
+    /// How many places there are up to the last octet.
+    fn len(&self) -> u64
+        ensures { result ≡ length self.now.held }
+    {
+        self.span
+    }
+
+    /// The octet so many places behind the first one that wasn't taken.
+    fn slot(&self, behind: u64) -> Option<u8>
+        requires { behind < length self.now.held }
+        ensures { result ≡ get_or self.now.held behind None }
+    {
+        octet(
+            &self.ring,
+            &self.words,
+            self.room as usize,
+            self.taken - self.origin + behind,
+        )
+    }
+
     /// Empties the window and gives it another length, without taking memory.
     pub fn clear(&mut self, cap: u32)
         requires least { 1 ≤ cap }
@@ -163,6 +202,14 @@ impl Window {
         self.span = 0;
         self.cap = cap;
     }
+}
+
+/// Whether both are the same octet, or none.
+fn is_same(one: Option<u8>, other: Option<u8>) -> bool
+    ensures same { result ≡ true → one ≡ other }
+    ensures differs { one ≡ other → result ≡ true }
+{
+    one == other
 }
 
 /// The place at the ring's front: where nothing is kept, the first one that wasn't taken.

@@ -2,7 +2,7 @@
 //! places are kept, bits of words say.
 ghost use Rattle.std.specs.Prelude.{◌≡◌, ◌+◌, ◌-◌, ◌*◌, ◌%◌, ◌<◌, ◌≤◌, ◌++◌, ℕ, true, false, not, length, get_or, drop, min, vec_len};
 ghost use Rattle.std.specs.Vec.{vec_capacity};
-ghost use Rattle.efi_window.specs.Kept.{is_kept, IsPlaced};
+ghost use Rattle.efi_window.specs.Kept.{is_kept, slot, IsPlaced};
 
 use crate::bits::{mark, run_end};
 use crate::runs::put_run;
@@ -62,6 +62,19 @@ pub fn run(words: &[u64], room: usize, set: bool, place: u64, most: usize) -> us
         return end - at;
     }
     room - at + run_end(words, set, 0, most - (room - at))
+}
+
+/// The octet that is kept at a place.
+pub fn octet(ring: &[u8], words: &[u64], room: usize, place: u64) -> Option<u8>
+    requires some { 0 < room }
+    requires words { room ≤ 64 * length words.now }
+    requires used { is_kept words.now (place % room) ≡ true → place % room < length ring.now }
+    ensures { result ≡ slot (is_kept words.now (place % room)) (get_or ring.now (place % room) 0) }
+{
+    if run(words, room, true, place, 1) == 0 {
+        return None;
+    }
+    Some(ring[(place % room as u64) as usize])
 }
 
 /// Writes two runs to the front of a room, one behind the other.

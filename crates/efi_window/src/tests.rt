@@ -155,3 +155,71 @@ fn cleared(rt: HostRuntime) {
     window.put(0, b"0123456789");
     assert_eq!(rt; (window.taken(), window.ready(), window.cap()), (0, 5, 5));
 }
+
+/// What is done with one window and with another, and whether they hold the same then.
+type Pair = (&'static [Step], &'static [Step], bool);
+
+const PAIRS: [Pair; 7] = [
+    // in another order, and over one another
+    (
+        &[Step::Put(0, b"ab"), Step::Put(4, b"cd")],
+        &[Step::Put(4, b"cd"), Step::Put(1, b"b"), Step::Put(0, b"ax")],
+        true,
+    ),
+    // round the ring's end, with a gap over an octet that was taken
+    (
+        &[
+            Step::Put(0, b"abcdefgh"),
+            Step::Take(5, b"abcde"),
+            Step::Put(8, b"ij"),
+            Step::Put(11, b"l"),
+        ],
+        &[Step::Put(6, b"l"), Step::Put(0, b"fghij")],
+        true,
+    ),
+    // the front has moved on
+    (
+        &[
+            Step::Put(0, b"abc"),
+            Step::Take(3, b"abc"),
+            Step::Put(4, b"e"),
+        ],
+        &[Step::Put(1, b"e")],
+        true,
+    ),
+    // the last octet, a gap, one octet more
+    (&[Step::Put(0, b"abc")], &[Step::Put(0, b"abd")], false),
+    (
+        &[Step::Put(0, b"abc")],
+        &[Step::Put(0, b"a"), Step::Put(2, b"c")],
+        false,
+    ),
+    (&[Step::Put(0, b"abc")], &[Step::Put(0, b"abcd")], false),
+    // an octet of 0 is no gap
+    (&[Step::Put(0, b"\0b")], &[Step::Put(1, b"b")], false),
+];
+
+/// Whether the steps show what they say, and the windows hold the same then or not, from both sides.
+fn compares(one: &mut Window, other: &mut Window, pair: &Pair) -> bool {
+    let (ones, others, same) = pair;
+    for step in *ones {
+        if !shows(one, *step) {
+            return false;
+        }
+    }
+    for step in *others {
+        if !shows(other, *step) {
+            return false;
+        }
+    }
+    one.holds_same(other) == *same && other.holds_same(one) == *same
+}
+
+#[test]
+fn pairs(rt: HostRuntime) {
+    for pair in PAIRS {
+        let mut one = Window::open(rt.alloc(), 8).expect(&rt, "memory");
+        let mut other = Window::open(rt.alloc(), 8).expect(&rt, "memory");
+        assert!(rt; compares(&mut one, &mut other, &pair));
+    }
+}

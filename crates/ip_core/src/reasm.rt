@@ -1,7 +1,7 @@
 //! Datagrams from fragments (RFC 791, section 3.2): pools that hold the fragments of one datagram each, until it is
 //! whole or too old. Nothing here reads a header.
-ghost use Rattle.std.specs.Prelude.{⊤, List, ◌≡◌, ◌+◌, ◌≤◌, ◌<◌, [], length, take, remove, slice_set, slice_index_or, IfOk, IfSome, option_map, is_some, vec_len, if◌then◌else◌};
-ghost use Rattle.std.specs.List.{position};
+ghost use Rattle.std.specs.Prelude.{⊤, true, List, ◌≡◌, ◌+◌, ◌≤◌, ◌<◌, [], length, take, remove, slice_set, slice_index_or, IfOk, IfSome, option_map, is_some, vec_len, if◌then◌else◌};
+ghost use Rattle.std.specs.List.{position, list_any};
 ghost use Rattle.std.specs.Vec.{vec_capacity};
 ghost use Rattle.std.specs.Borrow.{sem, follows_so};
 ghost use Rattle.wire_ip4.specs.Packet.{Packet};
@@ -77,6 +77,21 @@ impl Reasm {
             Some(count) => Some(lent(p, &self.room[..count])),
             None => None,
         }
+    }
+
+    /// Whether the same pools are open in both, in the same order, and hold the same.
+    pub fn is_same(&self, other: &Reasm) -> bool
+        ensures same { result ≡ true → self.now ≡ other.now }
+        ensures differs { self.now ≡ other.now → result ≡ true }
+    {
+        are_same(&self.pools, &other.pools)
+    }
+
+    /// Whether the pool of a packet's datagram is open.
+    pub fn is_open(&self, p: &Ip) -> bool
+        ensures { result ≡ list_any (is_of (key_of (packet_seen p.now))) self.now }
+    {
+        has_key(&self.pools, key_of(p))
     }
 
     /// Closes the pools that are over.
@@ -168,6 +183,31 @@ fn find(pools: &[Slot], key: FragmentKey) -> Option<usize>
     ensures { result ≡ position (is_of (key_seen key)) pools.now }
 {
     pools.iter().position(|slot| slot.is_of(key))
+}
+
+/// Whether a pool is the key's.
+fn has_key(pools: &[Slot], key: FragmentKey) -> bool
+    ensures { result ≡ list_any (is_of (key_seen key)) pools.now }
+{
+    pools.iter().any(|slot| slot.is_of(key))
+}
+
+/// Whether these are the same pools in the same order.
+fn are_same(pools: &[Slot], others: &[Slot]) -> bool
+    ensures same { result ≡ true → pools.now ≡ others.now }
+    ensures differs { pools.now ≡ others.now → result ≡ true }
+{
+    if pools.len() != others.len() {
+        return false;
+    }
+    let mut place = 0;
+    while place < pools.len() {
+        if !pools[place].is_same(&others[place]) {
+            return false;
+        }
+        place += 1;
+    }
+    true
 }
 
 /// Takes in a fragment, and moves the octets of its datagram into the room where they are whole.

@@ -1,5 +1,5 @@
 //! The memory of one pool: the bytes of one datagram's fragments by their places (RFC 791, section 3.2).
-ghost use Rattle.std.specs.Prelude.{◌≡◌, ◌+◌, ◌≤◌, length, take, IfOk, IfSome, IfNone, option_map};
+ghost use Rattle.std.specs.Prelude.{◌≡◌, ◌+◌, ◌≤◌, true, length, take, IfOk, IfSome, IfNone, option_map};
 ghost use Rattle.wire_ip4.specs.Seen.{packet_seen};
 ghost use Rattle.ip_core.specs.Pools.{Pool, key_of, is_key, is_of, lasts, most_bytes};
 ghost use Rattle.ip_core.specs.Bytes.{Bytes, bytes_kept, bytes_with, end_with};
@@ -93,6 +93,20 @@ impl Slot {
         now.saturating_sub(self.opened) < LIFETIME
     }
 
+    /// Whether both hold the same pool.
+    pub fn is_same(&self, other: &Slot) -> bool
+        ensures same { result ≡ true → self.now ≡ other.now }
+        ensures differs { self.now ≡ other.now → result ≡ true }
+    {
+        if !is_key(self.key, other.key) || self.opened != other.opened {
+            return false;
+        }
+        if !is_end(self.end, other.end) {
+            return false;
+        }
+        self.window.holds_same(&other.window)
+    }
+
     /// Keeps a fragment's octets, each where none stands yet.
     pub fn add(&mut self, f: &Ip)
         requires { f.now.place + length f.now.payload.now ≤ most_bytes }
@@ -137,6 +151,14 @@ fn is_key(k: FragmentKey, l: FragmentKey) -> bool
     ensures { result ≡ is_key (key_seen k) (key_seen l) }
 {
     k.src.0 == l.src.0 && (k.dest.0 == l.dest.0 && (k.proto == l.proto && k.id == l.id))
+}
+
+/// Whether both are the same end, or none.
+fn is_end(one: Option<u64>, other: Option<u64>) -> bool
+    ensures same { result ≡ true → one ≡ other }
+    ensures differs { one ≡ other → result ≡ true }
+{
+    one == other
 }
 
 /// The end with one more fragment.

@@ -114,6 +114,51 @@ fn sixteen_pools(rt: HostRuntime) {
     hears(&rt, &mut reasm, &rows);
 }
 
+/// What one reassembly hears, and another; whether both hold the same then, and whether the other has a pool of datagram 1.
+type Pair<'a> = (&'a [Row<'a>], &'a [Row<'a>], bool, bool);
+
+/// Whether both are as the pair says after what they heard, from both sides.
+fn compares(rt: &impl Abort, one: &mut Reasm, other: &mut Reasm, pair: &Pair) -> bool {
+    let (ones, others, same, has_pool) = pair;
+    hears(rt, one, ones);
+    hears(rt, other, others);
+    let both = one.is_same(other) == *same && other.is_same(one) == *same;
+    both && other.is_open(&packet(1, 8, true, b"")) == *has_pool
+}
+
+#[test]
+fn compares_reassemblies(rt: HostRuntime) {
+    let first: Row = (0, 1, 0, true, b"abcdefgh", None);
+    let third: Row = (0, 1, 16, true, b"qrstuvwx", None);
+    let second: Row = (0, 2, 0, true, b"abcdefgh", None);
+    let pairs: [Pair; 8] = [
+        (&[first, third], &[third, first], true, true),
+        (
+            &[],
+            &[(0, 1, 0, false, b"whole", Some(b"whole"))],
+            true,
+            false,
+        ),
+        (&[first], &[], false, false),
+        // the tick, an octet, the end, the order, the key
+        (&[first], &[(1, 1, 0, true, b"abcdefgh", None)], false, true),
+        (&[first], &[(0, 1, 0, true, b"abcdefgX", None)], false, true),
+        (
+            &[third],
+            &[(0, 1, 16, false, b"qrstuvwx", None)],
+            false,
+            true,
+        ),
+        (&[first, second], &[second, first], false, true),
+        (&[first], &[second], false, false),
+    ];
+    for pair in pairs {
+        let mut one = Reasm::new(rt.alloc()).expect(&rt, "memory for 16 pools");
+        let mut other = Reasm::new(rt.alloc()).expect(&rt, "memory for 16 pools");
+        assert!(rt; compares(&rt, &mut one, &mut other, &pair));
+    }
+}
+
 /// A route by its numbers.
 fn way(dest: u32, mask: u32, gate: u32) -> Route {
     Route {

@@ -195,8 +195,8 @@ impl<R: Files> Sink for FileSink<'_, R> {
         ensures bytes { WriteAppends None None result piece.now }
         ensures cause { HasMissCause self.old.faults self.new.faults result }
 
-        // The same of the file, once it is open. At the first write, too, the file took what is answered behind what it held
-        // when it was opened.
+        // The same of the file, once it is open. At the first write, too, what is answered are the last octets that the file
+        // took; what stands in front of them no clause says, since nothing is known of a file that was just made.
         ensures handed { IfOk result (λ n. Appends self.old.octets self.new.octets (take n piece.now)) }
         ensures opened { IfOk result (λ n. (made : R.File) × Appends (R.File.contents made) self.new.octets (take n piece.now)) }
         ensures front { AppendsFront self.old.octets self.new.octets piece.now }

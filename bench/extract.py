@@ -11,6 +11,7 @@ Makes a capture of N megabytes (200 by default) for each kind of download, or fo
   chunked   in order, the body in chunks of 4,096 octets
   small     segments of 536 octets in order
   front     in order, behind as many octets of a connection between others, whose beginning isn't there
+  fragments in order, behind as many octets of datagrams between others in fragments, of which each hundredth isn't whole
 
 and lets each program read it, `cat` to a file, and the others (`tcpflow` and `tcpick` where they are installed) with the
 stream or image to a file. `hold` is Python reading its whole input into memory and then writing it, and nothing else: what
@@ -43,14 +44,16 @@ CHUNK = 4096
 BUFFER = 2**30
 HOLD = "import sys; sys.stdout.buffer.write(sys.stdin.buffer.read())"
 KINDS = {
-    # segment size, one in so many comes later, by so many segments, chunked, behind other traffic
-    "order": (1460, 0, 0, False, False),
-    "late": (1460, 20, 3, False, False),
-    "lost": (1460, 100, 40, False, False),
-    "chunked": (1460, 0, 0, True, False),
-    "small": (536, 0, 0, False, False),
-    "front": (1460, 0, 0, False, True),
+    # segment size, one in so many comes later, by so many segments, chunked, behind which other traffic
+    "order": (1460, 0, 0, False, None),
+    "late": (1460, 20, 3, False, None),
+    "lost": (1460, 100, 40, False, None),
+    "chunked": (1460, 0, 0, True, None),
+    "small": (536, 0, 0, False, None),
+    "front": (1460, 0, 0, False, "segments"),
+    "fragments": (1460, 0, 0, False, "fragments"),
 }
+FRAGMENT, FRAGMENTS = 1480, 5
 
 
 def image_pieces(length):
@@ -117,10 +120,34 @@ def record(moment, sender, receiver, seq, ack, flags, payload=b""):
     pseudo = struct.pack(">IIBBH", src, dest, 0, 6, 20 + len(payload))
     total = (folded(pseudo + tcp) + folded(payload)) % 0xFFFF
     tcp = tcp[:16] + struct.pack(">H", 0xFFFF - total) + tcp[18:]
-    ip = struct.pack(">BBHHHBBHII", 0x45, 0, 40 + len(payload), 0, 0x4000, 64, 6, 0, src, dest)
+    return packet_record(moment, src_mac + dest_mac, (src, dest), 6, 0, 0x4000, tcp + payload)
+
+
+def packet_record(moment, macs, addresses, proto, identification, flags, payload):
+    """A record of a packet, whose flags have its place in its datagram."""
+    ip = struct.pack(">BBHHHBBHII", 0x45, 0, 20 + len(payload), identification, flags, 64, proto, 0, *addresses)
     ip = ip[:10] + struct.pack(">H", 0xFFFF - folded(ip)) + ip[12:]
-    frame = dest_mac + src_mac + b"\x08\x00" + ip + tcp + payload
+    frame = macs[6:] + macs[:6] + b"\x08\x00" + ip + payload
     return struct.pack("<IIII", moment // 10**6, moment % 10**6, len(frame), len(frame)) + frame
+
+
+def other_segments(length, size):
+    """Segments between others of so many octets."""
+    for place, octets, _ in segments(image_pieces(length), size):
+        yield record(0, *OTHERS, place, 1, ACK, octets)
+
+
+def other_fragments(length):
+    """Datagrams between others, in fragments, of so many octets; the last fragment of each hundredth isn't there."""
+    for number, (_, octets, _) in enumerate(segments(image_pieces(length), FRAGMENT * FRAGMENTS)):
+        (src_mac, src, _), (dest_mac, dest, _) = OTHERS if number % 2 else OTHERS[::-1]
+        for place in range(0, len(octets), FRAGMENT):
+            more = place + FRAGMENT < len(octets)
+            if more or number % 100:
+                flags = more * 0x2000 + place // 8
+                yield packet_record(
+                    60 * number, src_mac + dest_mac, (src, dest), 17, number % 2**16, flags, octets[place:place + FRAGMENT]
+                )
 
 
 class Receiver:
@@ -141,9 +168,10 @@ def write_capture(path, length, kind):
     here, receiver = ISS + 1 + len(REQUEST), Receiver()
     with open(path, "wb", buffering=PIECE) as out:
         out.write(struct.pack("<IHHIIII", 0xA1B2C3D4, 2, 4, 0, 0, 262144, 1))
-        if behind:
-            for place, octets, _ in segments(image_pieces(length), size):
-                out.write(record(0, *OTHERS, place, 1, ACK, octets))
+        if behind == "segments":
+            out.writelines(other_segments(length, size))
+        if behind == "fragments":
+            out.writelines(other_fragments(length))
         out.write(record(0, CLIENT, SERVER, ISS, 0, SYN))
         out.write(record(100, SERVER, CLIENT, IRS, ISS + 1, SYN | ACK))
         out.write(record(200, CLIENT, SERVER, ISS + 1, IRS + 1, PSH | ACK, REQUEST))
@@ -249,7 +277,7 @@ def main():
     for kind in kinds:
         size, behind = KINDS[kind][0], KINDS[kind][4]
         # a frame's headers stand before each segment, and an acknowledgment behind every second one
-        length = int(words.megabytes * 1e6 * size / (size + HEADERS * 3 / 2)) // (1 + behind)
+        length = int(words.megabytes * 1e6 * size / (size + HEADERS * 3 / 2)) // (1 + bool(behind))
         with tempfile.TemporaryDirectory() as folder:
             found, octets = measure(folder, program, kind, length, words.tries)
         first = first or found

@@ -1,10 +1,10 @@
 -- What kept fragments leave open to a station is what all records leave open to it.
-use Rattle.std.proofs.Common.{◌≡◌, ℕ, ◌+◌, ◌-◌, ◌<◌, ◌≤◌, max, Bool, true, false, ◌&&◌, List, [], ◌∷◌, ◌++◌, filter, fold, take, get_or, length, All, Option, Some, None, is_some, refl, sym, ap, subst, ◌∙◌, inl, inr, arith, rules, if◌then◌else◌}
+use Rattle.std.proofs.Common.{◌≡◌, ℕ, ◌+◌, ◌-◌, ◌<◌, ◌≤◌, max, Bool, true, false, ◌&&◌, List, [], ◌∷◌, ◌++◌, filter, fold, take, get_or, length, All, Option, Some, None, is_some, refl, sym, ap, subst, ◌∙◌, inl, inr, arith, if◌then◌else◌}
 use Rattle.std.specs.Option.{option_map_or}
 use Rattle.std.proofs.Math.Nat.{max-eq_left, max-eq_right, le-max_left, le-max_right}
 use Rattle.std.proofs.lemmas.Bool.{cases_lt, lt-ltb, le-ltb, ltb-true}
 use Rattle.std.proofs.lemmas.List.{take_more}
-use Rattle.std.proofs.lemmas.List.Elements.{All-head, All-tail, All-cons, All-append, All-filter}
+use Rattle.std.proofs.lemmas.List.Elements.{All-head, All-tail, All-cons, All-append, All-filter, All-nil}
 use Rattle.std.proofs.lemmas.List.Sums.{fold-append}
 use Rattle.efi_base.specs.declared.plain.Record.{Record}
 use Rattle.wire_ip4.specs.Packet.{Packet, packet_of, is_fragment}
@@ -12,15 +12,12 @@ use Rattle.ip_core.specs.Pools.{Key, Pool, key_of, is_of, is_dropped, lasts, lif
 use Rattle.ip_core.specs.Bytes.{Bytes, bytes_kept}
 use Rattle.ip_core.specs.Datagrams.{after_event}
 use Rattle.ip_core.specs.Frames.{event_at, packet_in_frame}
-use Rattle.tap_core.specs.declared.early.Fragment.{Fragment}
-use Rattle.tap_core.specs.declared.early.Fragments.{Fragments}
+use Rattle.tap_core.specs.declared.fragments.Fragment.{Fragment}
+use Rattle.tap_core.specs.declared.fragments.Fragments.{Fragments}
 use Rattle.tap_core.specs.Early.{holds_fragment, after_kept, latest_of, pools_left, HasFragments}
 use Rattle.tap_core.specs.Frames.{is_sent, heard_packet}
 use Rattle.tap_core.specs.Hearing.{event_heard}
 use Rattle.tap_core.specs.Openings.{Opening}
-
-all-nil : {A : Type 0} (P : A → Type 0) → All P []
-all-nil P = search rules
 
 and-right : (x y : Bool) → (y ≡ true → x ≡ true) → y ≡ (x && y)
 and-right true y h = refl
@@ -116,12 +113,12 @@ event-by m now pools (Some p) h o =
 abbrev kept-by : ℕ → Fragment → Type 0
 kept-by m k = k.record.tick.0 ≤ m
 
-folded-by : (o : Opening) (m : ℕ) (pools : List (Pool Bytes)) (kept : List Fragment) → All (opened-by m) pools → All (kept-by m) kept
+folded-by : (o : List ℕ → Option Packet) (m : ℕ) (pools : List (Pool Bytes)) (kept : List Fragment) → All (opened-by m) pools → All (kept-by m) kept
     → All (opened-by m) (fold (after_kept o) pools kept)
 folded-by o m pools [] opened by = opened
 folded-by o m pools (k ∷ kept) opened by =
     folded-by o m (after_kept o pools k) kept
-    (event-by m k.record.tick.0 (open_at k.passed.0 pools) (heard_packet o.station k.record.frame) (All-head (kept-by m) k kept by)
+    (event-by m k.record.tick.0 (open_at k.passed.0 pools) (o k.record.frame) (All-head (kept-by m) k kept by)
     (All-filter (lasts k.passed.0) (opened-by m) pools opened))
     (All-tail (kept-by m) k kept by)
 
@@ -133,7 +130,7 @@ latest-grows m [] = omega arith
 latest-grows m (k ∷ kept) = omega (arith, le-max_left m k.record.tick.0, latest-grows (later-of m k) kept)
 
 latest-from : (m : ℕ) (kept : List Fragment) → All (kept-by (fold later-of m kept)) kept
-latest-from m [] = all-nil (kept-by m)
+latest-from m [] = All-nil (kept-by m)
 latest-from m (k ∷ kept) =
     All-cons (kept-by (fold later-of (later-of m k) kept)) k kept
     (omega (arith, le-max_right m k.record.tick.0, latest-grows (later-of m k) kept))
@@ -144,11 +141,11 @@ latest-all : (f : Fragments) → HasFragments f → All (kept-by f.latest.0) f.k
 latest-all f h = subst (λ m. All (kept-by m) f.kept.items) (sym h.latest_is) (latest-from 0 f.kept.items)
 
 -- once the time of the latest fragment's pool is over, none is open
-pub left-fades : (o : Opening) (f : Fragments) (now : ℕ) → lifetime ≤ now - f.latest.0 → HasFragments f → open_at now (pools_left o f) ≡ []
+pub left-fades : (o : List ℕ → Option Packet) (f : Fragments) (now : ℕ) → lifetime ≤ now - f.latest.0 → HasFragments f → open_at now (pools_left o f) ≡ []
 left-fades o f now h fragments =
     fades f.latest.0 now (pools_left o f) h
     (All-filter (lasts f.passed.0) (opened-by f.latest.0) (fold (after_kept o) [] f.kept.items)
-    (folded-by o f.latest.0 [] f.kept.items (all-nil (opened-by f.latest.0)) (latest-all f fragments)))
+    (folded-by o f.latest.0 [] f.kept.items (All-nil (opened-by f.latest.0)) (latest-all f fragments)))
 
 abbrev is-holding : Fragment → Type 0
 is-holding k = holds_fragment k.record.frame ≡ true
@@ -157,14 +154,14 @@ is-holding k = holds_fragment k.record.frame ≡ true
 pub fragments-next : (f g : Fragments) (k : Fragment) → HasFragments f → holds_fragment k.record.frame ≡ true → g.kept.items ≡ f.kept.items ++ k ∷ []
     → g.latest.0 ≡ max f.latest.0 k.record.tick.0 → HasFragments g
 fragments-next f g k h here items latest = record {
-  holding = subst (All is-holding) (sym items) (All-append is-holding f.kept.items (k ∷ []) h.holding (All-cons is-holding k [] here (all-nil is-holding)));
+  holding = subst (All is-holding) (sym items) (All-append is-holding f.kept.items (k ∷ []) h.holding (All-cons is-holding k [] here (All-nil is-holding)));
   latest_is = latest ∙ ap (λ m. max m k.record.tick.0) h.latest_is ∙ sym (fold-append later-of 0 f.kept.items (k ∷ [])) ∙ ap latest_of (sym items);
 }
 
 -- no fragment
 pub fragments-none : (f : Fragments) → f.kept.items ≡ [] → f.latest.0 ≡ 0 → HasFragments f
 fragments-none f items latest = record {
-  holding = subst (All is-holding) (sym items) (all-nil is-holding);
+  holding = subst (All is-holding) (sym items) (All-nil is-holding);
   latest_is = latest ∙ ap latest_of (sym items);
 }
 
@@ -187,11 +184,11 @@ unfolding heard_packet
 record-passes o pools r e = event-passes r.tick.0 pools (is_sent o.station r.frame) (packet_in_frame packet_of r.frame) e
 
 -- the pools that are left with one fragment more
-pub left-next : (o : Opening) (kept : List Fragment) (f : Fragment)
+pub left-next : (o : List ℕ → Option Packet) (kept : List Fragment) (f : Fragment)
     → open_at 0 (fold (after_kept o) [] (kept ++ f ∷ [])) ≡ after_kept o (fold (after_kept o) [] kept) f
 left-next o kept f = open-zero (fold (after_kept o) [] (kept ++ f ∷ [])) ∙ fold-append (after_kept o) [] kept (f ∷ [])
 
-pub kept-more : (o : Opening) (kept : List Fragment) (i : ℕ) (f : Fragment) → i < length kept → f ≡ get_or kept i f
+pub kept-more : (o : List ℕ → Option Packet) (kept : List Fragment) (i : ℕ) (f : Fragment) → i < length kept → f ≡ get_or kept i f
     → fold (after_kept o) [] (take (i + 1) kept) ≡ after_kept o (fold (after_kept o) [] (take i kept)) f
 kept-more o kept i f h e =
     ap (fold (after_kept o) []) (take_more kept i f h ∙ ap (λ x. take i kept ++ x ∷ []) (sym e))

@@ -9,3 +9,4 @@ pub mod Splits
 pub mod Steps
 pub mod Streams
 pub mod Tapped
+pub mod Thinned

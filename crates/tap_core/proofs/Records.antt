@@ -1,8 +1,8 @@
 -- What records ask for that are looked at one after the other, by the pools of octets that the code keeps.
-use Rattle.std.proofs.Common.{◌≡◌, ℕ, suc, ◌<◌, List, [], ◌∷◌, ◌++◌, length, map, fold, Option, Some, None, All, refl, sym, ap, subst, ◌∙◌, rules, arith}
+use Rattle.std.proofs.Common.{◌≡◌, ℕ, suc, ◌<◌, List, [], ◌∷◌, ◌++◌, length, map, fold, Option, Some, None, All, refl, sym, ap, subst, ◌∙◌, arith}
 use Rattle.std.proofs.lemmas.List.{map-append, append_assoc, length-append}
 use Rattle.std.proofs.lemmas.List.Sums.{fold-append}
-use Rattle.std.proofs.lemmas.List.Elements.{All-append, All-cons}
+use Rattle.std.proofs.lemmas.List.Elements.{All-append, All-cons, All-nil}
 use Rattle.efi_base.specs.declared.plain.Record.{Record}
 use Rattle.ip_core.specs.Pools.{Pool}
 use Rattle.ip_core.specs.Bytes.{Bytes, bytes_kept}
@@ -56,9 +56,6 @@ openings-next records r =
 
 openings-length : (records : List Record) → length (openings_of records) ≡ length records
 openings-length records = ap length (asked-openings records) ∙ asked-length [] records
-
-All-nil : {A : Type 0} (P : A → Type 0) → All P []
-All-nil P = search rules
 
 pub nothing-asked : All (λ o. o ≡ None) (openings_of [])
 nothing-asked = All-nil (λ (o : Option Opening). o ≡ None)

@@ -2,7 +2,7 @@
 use Rattle.std.proofs.Common.{◌≡◌, ℕ, ◌+◌, ◌-◌, suc, ◌≤◌, ◌<◌, Bool, true, false, List, [], ◌∷◌, ◌++◌, length, take, drop, All, Option, Some, None, IsTrue, if◌then◌else◌, inl, inr, refl, sym, ap, subst, ◌∙◌, rules, arith}
 use Rattle.std.proofs.lemmas.List.{length-append, append_assoc, take_all, drop-append-le, take-append-le, length-drop}
 use Rattle.std.proofs.Math.Seq.{drop-length}
-use Rattle.std.proofs.lemmas.List.Elements.{All-append, All-cons}
+use Rattle.std.proofs.lemmas.List.Elements.{All-append, All-cons, All-nil}
 use Rattle.efi_base.specs.declared.plain.Record.{Record}
 use Rattle.wire_l4.specs.Segment.{Segment}
 use Rattle.tcp_recv.specs.Stream.{Board, empty}
@@ -38,9 +38,6 @@ pub behind-last : (o : Opening) (records : List Record) (r : Record) → heard_b
 behind-last o records r =
     let count : suc (length records) ≡ length (segments_heard o (records ++ r ∷ [])) = omega (arith, segments-length o (records ++ r ∷ []), length-append records (r ∷ [])) in
     ap (λ n. drop n (segments_heard o (records ++ r ∷ []))) count ∙ drop-length (segments_heard o (records ++ r ∷ []))
-
-All-nil : {A : Type 0} (P : A → Type 0) → All P []
-All-nil P = search rules
 
 pub nothing-accepts : (o : Opening) (records : List Record) (r : Record) → All (λ h. accepts_at o.seq h ≡ false) (heard_behind (records ++ r ∷ []) (length records) o)
 nothing-accepts o records r =

@@ -26,7 +26,7 @@ use Rattle.tap_core.specs.Watching.{IsSeenOf}
 pub record IsWaiting (records : List Record) (w : Waiting) : Type 0 where
   pub none : All (λ o. o ≡ None) (openings_of records)
   pub pools : w.reasm ≡ pools_sent records
-  pub early : KeepsFragments records w.early
+  pub early : KeepsFragments records w.early.fragments
   pub tally : Tallies records w.tally
 
 -- the station has heard the records: the pools are those that the records leave open to it, and the counts are the records'

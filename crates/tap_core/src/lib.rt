@@ -5,12 +5,14 @@
 mod answer;
 // the stream of the connection, and the load of it
 mod download;
-// the fragments in front of that segment
+// what is kept of the records in front of that segment
 mod early;
 // how a download ends
 mod ends;
 // what a record adds to a download
 mod follow;
+// the fragments among them, and the pools that they leave
+mod fragments;
 // what the station hears from its peer
 mod heard;
 // what holds of the definitions
@@ -31,8 +33,10 @@ mod tally;
 mod tapping;
 // what a report tells
 mod telling;
+// which fragments can be forgotten
 #[cfg(test)]
 mod tests;
+mod thinning;
 
 pub use ends::End;
 pub use laws::{

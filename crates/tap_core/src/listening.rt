@@ -13,8 +13,8 @@ ghost use Rattle.tap_core.specs.Tapping.{Listens};
 
 use crate::answer::answer_at;
 use crate::download::Download;
-use crate::early::Fragments;
 use crate::follow::take_in;
+use crate::fragments::Fragments;
 use crate::opening::Syn;
 use crate::tally::Tally;
 use crate::telling::{Counts, count_one};
@@ -40,7 +40,7 @@ pub fn listen(
     ensures syn { IfOk result (λ l. l.syn ≡ syn) }
     ensures listens { (records : List Record) → KeepsFragments records early.now → Tallies records tally.now → IfOk result (Listens records) }
 {
-    let reasm = early.pools(alloc, &syn)?;
+    let reasm = early.pools(alloc, Some(syn.station))?;
     let counts = tally.counts(syn.station);
     Ok(Listener { syn, reasm, counts })
 }

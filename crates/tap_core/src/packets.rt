@@ -2,7 +2,8 @@
 ghost use Rattle.std.specs.Prelude.{◌≡◌, option_map};
 ghost use Rattle.wire_ip4.specs.Packet.{packet_of, unverified_packet_of};
 ghost use Rattle.wire_ip4.specs.Seen.{packet_seen};
-ghost use Rattle.tap_core.specs.Early.{holds_fragment};
+ghost use Rattle.ip_core.specs.Frames.{packet_in_frame};
+ghost use Rattle.tap_core.specs.Early.{holds_fragment, packets_of};
 ghost use Rattle.tap_core.specs.Frames.{any_packet, heard_packet, is_sent};
 
 use efi_base::Mac;
@@ -49,19 +50,39 @@ pub fn read_heard(station: Mac, frame: &[u8]) -> Option<Ip<'_>>
     }
 }
 
+/// The packet of a frame, with a right checksum of its header, whoever sent it.
+fn read_right(frame: &[u8]) -> Option<Ip<'_>>
+    ensures { option_map packet_seen result ≡ packet_in_frame packet_of frame.now }
+{
+    let Ok(ether) = read_ether(frame) else {
+        return None;
+    };
+    if ether.proto != IPV4 {
+        return None;
+    }
+    match read_ip(ether.payload) {
+        Ok(packet) => Some(packet),
+        Err(_) => None,
+    }
+}
+
+/// The packet of a frame, with a right checksum of its header, that a station heard, or one that sent none of the frames.
+pub fn read_packet(station: Option<Mac>, frame: &[u8]) -> Option<Ip<'_>>
+    ensures { option_map packet_seen result ≡ packets_of station frame.now }
+{
+    match station {
+        Some(station) => read_heard(station, frame),
+        None => read_right(frame),
+    }
+}
+
 /// Whether a frame holds a fragment with a right checksum of its header.
 pub fn holds_fragment(frame: &[u8]) -> bool
     ensures { result ≡ holds_fragment frame.now }
 {
-    let Ok(ether) = read_ether(frame) else {
-        return false;
-    };
-    if ether.proto != IPV4 {
-        return false;
-    }
-    match read_ip(ether.payload) {
-        Ok(packet) => packet.mf || packet.place != 0,
-        Err(_) => false,
+    match read_right(frame) {
+        Some(packet) => packet.mf || packet.place != 0,
+        None => false,
     }
 }
 

@@ -8,7 +8,7 @@ ghost use Rattle.tap_core.specs.declared.ends.End.TheVariants.{NoConnection};
 ghost use Rattle.tap_core.specs.declared.stages.Stage.TheVariants.{Broken};
 
 use crate::download::Download;
-use crate::early::Fragments;
+use crate::early::Early;
 use crate::ends::End;
 use crate::listening::{Listener, hear_answer, hear_segment, listen};
 use crate::opening::asked_at;
@@ -24,7 +24,7 @@ use std::alloc::Global;
 #[derive(Drop)]
 pub struct Waiting {
     reasm: Reasm,
-    early: Fragments,
+    early: Early,
     tally: Tally,
 }
 
@@ -48,7 +48,7 @@ pub fn first_stage(alloc: Global) -> Result<Stage, NoMemory>
     ensures { IfOk result (λ s. (most : ℕ) → StandsFor most [] s) }
 {
     let reasm = Reasm::new(alloc)?;
-    let early = Fragments::new(alloc);
+    let early = Early::new(alloc);
     let tally = Tally::new(alloc);
     Ok(Stage::Opening(Waiting {
         reasm,
@@ -82,7 +82,7 @@ fn hear_first(alloc: Global, waiting: Waiting, record: Record) -> Result<Stage, 
     } = waiting;
     let asked = asked_at(&mut reasm, &record);
     tally.count(&record)?;
-    early.hear(record)?;
+    early.hear(alloc, record)?;
     let Some(syn) = asked else {
         return Ok(Stage::Opening(Waiting {
             reasm,
@@ -90,7 +90,7 @@ fn hear_first(alloc: Global, waiting: Waiting, record: Record) -> Result<Stage, 
             tally,
         }));
     };
-    let listener = listen(alloc, syn, &early, &tally)?;
+    let listener = listen(alloc, syn, &early.fragments, &tally)?;
     Ok(Stage::Answering(listener))
 }
 

@@ -1,4 +1,5 @@
 //! What a tap tells of small captures, whose frames were made by another program.
+use crate::early::Early;
 use crate::{End, Seen, Tap};
 use efi_base::{Bytes, Record, Tick};
 use std::alloc::Global;
@@ -27,6 +28,10 @@ const ACCEPT_REST: &str =
 const OWN_FRONT: &str = "\
     02000000000202000000000108004500002400072000400646cb0a0000010a0000020050c001000003e8000100015012\
     ffff";
+
+/// The last fragment, sent by the station itself.
+const OWN_REST: &str =
+    "02000000000202000000000108004500001800070002400666d50a0000010a000002d7940000";
 
 /// The first fragment, with another checksum of its header.
 const DAMAGED_FRONT: &str = "\
@@ -83,13 +88,17 @@ fn from_hex(alloc: Global, text: &str) -> Result<Bytes, Fail> {
 }
 
 /// The tap hears a frame at a tick.
-fn hear(rt: &impl Abort, alloc: Global, tap: &mut Tap, tick: u32, frame: &str) -> Result<(), Fail> {
+fn record_of(alloc: Global, tick: u32, frame: &str) -> Result<Record, Fail> {
     let frame = from_hex(alloc, frame)?;
-    let record = Record {
+    Ok(Record {
         tick: Tick(tick as u64),
         frame,
-    };
-    tap.hear(record).expect(rt, "memory");
+    })
+}
+
+fn hear(rt: &impl Abort, alloc: Global, tap: &mut Tap, tick: u32, frame: &str) -> Result<(), Fail> {
+    tap.hear(record_of(alloc, tick, frame)?)
+        .expect(rt, "memory");
     Ok(())
 }
 
@@ -298,6 +307,69 @@ fn hears_fragments_in_front(rt: HostRuntime) -> Result<(), Fail> {
         }
         let seen = tap.finish();
         assert_eq!(rt; seen.shown.end, *end, "{name}");
+    }
+    Ok(())
+}
+
+/// Two frames that come in turns, a thousand times, in front of the segment that asks for the connection; whether they are
+/// forgotten; and how it ends where the answer's last fragment comes behind it.
+const TURNS: [(&str, [&str; 2], bool, End); 4] = [
+    (
+        "a datagram that is whole",
+        [ACCEPT_FRONT, ACCEPT_REST],
+        true,
+        End::NoConnection,
+    ),
+    (
+        "one that is whole to all but the station",
+        [ACCEPT_FRONT, OWN_REST],
+        false,
+        End::OutOfTime,
+    ),
+    (
+        "one that is whole to no one but the station",
+        [OWN_FRONT, ACCEPT_REST],
+        false,
+        End::NoConnection,
+    ),
+    (
+        "one that is open to all",
+        [ACCEPT_FRONT, ACCEPT_FRONT],
+        false,
+        End::OutOfTime,
+    ),
+];
+
+fn keep_turns(rt: &impl Abort, alloc: Global, frames: &[&str; 2]) -> Result<usize, Fail> {
+    let mut early = Early::new(alloc);
+    for _ in 0..1_000 {
+        for frame in frames {
+            early
+                .hear(alloc, record_of(alloc, 0, frame)?)
+                .expect(rt, "memory");
+        }
+    }
+    Ok(early.fragments.kept.len())
+}
+
+fn end_behind_turns(rt: &impl Abort, alloc: Global, frames: &[&str; 2]) -> Result<End, Fail> {
+    let mut tap = Tap::new(alloc, 1).expect(rt, "memory");
+    for _ in 0..1_000 {
+        for frame in frames {
+            hear(rt, alloc, &mut tap, 0, frame)?;
+        }
+    }
+    hear(rt, alloc, &mut tap, 1, SYN)?;
+    hear(rt, alloc, &mut tap, 2, ACCEPT_REST)?;
+    Ok(tap.finish().shown.end)
+}
+
+#[test]
+fn forgets_whole_datagrams(rt: HostRuntime) -> Result<(), Fail> {
+    for (name, frames, forgets, end) in &TURNS {
+        let kept = keep_turns(&rt, rt.alloc(), frames)?;
+        assert_eq!(rt; kept < 2_000, *forgets, "{name}");
+        assert_eq!(rt; end_behind_turns(&rt, rt.alloc(), frames)?, *end, "{name}");
     }
     Ok(())
 }

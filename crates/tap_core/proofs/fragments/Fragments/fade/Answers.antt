@@ -3,7 +3,7 @@ use Rattle.std.proofs.Common.{◌∙◌, [], fold, ap, sym, refl, arith}
 use Rattle.ip_core.specs.Pools.{open_at}
 use Rattle.tap_core.specs.Early.{after_kept}
 use Rattle.tap_core.proofs.Kept.{left-fades, fragments-none}
-use Rattle.tap_core.proofs.early.Fragments.fade.Goals as goal
+use Rattle.tap_core.proofs.fragments.Fragments.fade.Goals as goal
 
 pub returns-then-saturating_sub-ge-LIFETIME-clause-left : goal.returns-then-saturating_sub-ge-LIFETIME-clause-left
 returns-then-saturating_sub-ge-LIFETIME-clause-left c = λ fragments o.

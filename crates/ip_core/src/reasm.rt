@@ -87,7 +87,7 @@ impl Reasm {
         are_same(&self.pools, &other.pools)
     }
 
-    /// Whether the pool of a packet's datagram is open.
+    /// Whether the pool of a packet's datagram was open at the last tick or packet.
     pub fn is_open(&self, p: &Ip) -> bool
         ensures { result ≡ list_any (is_of (key_of (packet_seen p.now))) self.now }
     {

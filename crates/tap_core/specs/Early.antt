@@ -27,12 +27,12 @@ abbrev pub packets_of : Option Mac → List ℕ → Option Packet
 packets_of None = packet_in_frame packet_of
 packets_of (Some m) = heard_packet m.0
 
--- the pools behind a kept fragment, where these packets are heard: in front of it comes the greatest tick since the kept one
--- before it
+-- the pools after a kept fragment, where these packets are heard: the tick that passed in front of it closes old ones, and then
+-- the fragment is taken in
 abbrev pub after_kept : (List ℕ → Option Packet) → List (Pool Bytes) → Fragment → List (Pool Bytes)
 after_kept counts pools f = after_event bytes_kept (open_at f.passed.0 pools) (event_of counts f.record)
 
--- the pools that the kept fragments leave open, with the greatest tick behind the last of them
+-- the pools that the kept fragments leave open, after the tick that passed behind the last of them
 abbrev pub pools_left : (List ℕ → Option Packet) → Fragments → List (Pool Bytes)
 pools_left counts f = open_at f.passed.0 (fold (after_kept counts) [] f.kept.items)
 
@@ -40,17 +40,17 @@ pools_left counts f = open_at f.passed.0 (fold (after_kept counts) [] f.kept.ite
 abbrev pub latest_of : List Fragment → ℕ
 latest_of kept = fold (λ m (k : Fragment). max m k.record.tick.0) 0 kept
 
--- the kept records hold fragments, and the latest tick is theirs
+-- each kept record holds a fragment, and the latest tick is the greatest of theirs
 pub record HasFragments (f : Fragments) : Type 0 where
   pub holding : All (λ (k : Fragment). holds_fragment k.record.frame ≡ true) f.kept.items
   pub latest_is : f.latest.0 ≡ latest_of f.kept.items
 
--- none is kept, or a pool of the latest may be open at a tick
+-- none is kept, or a pool that opened at the greatest tick of a kept one may be open at this tick
 abbrev pub AreRecent : ℕ → Fragments → Type 0
 AreRecent now f = (f.kept.items ≡ []) ⊎ (now - f.latest.0 < lifetime)
 
--- whoever is the station, the kept fragments leave the pools that the records leave; and none is kept once the time of the
--- latest one's pool is over
+-- whoever is the station, the kept fragments leave the pools that the records leave; and at the last record's tick a pool that
+-- opened at the greatest tick of a kept one may be open, or none is kept
 pub record KeepsFragments (records : List Record) (f : Fragments) : Type 0 where
   pub pools : (o : Opening) → pools_left (heard_packet o.station) f ≡ pools_from o [] records
   pub fragments : HasFragments f

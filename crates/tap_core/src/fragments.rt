@@ -13,15 +13,15 @@ use efi_base::{Mac, NoMemory, Record, Tick};
 use ip_core::{LIFETIME, Reasm};
 use std::alloc::Global;
 
-/// A fragment, and the greatest tick of the records between the one that was kept before it and it.
+/// A fragment, and the greatest tick that passed behind the one that is kept before it.
 #[derive(Drop)]
 pub struct Fragment {
     pub passed: Tick,
     pub record: Record,
 }
 
-/// The fragments among the records so far, the greatest tick of the records behind the last of them, and the greatest tick of
-/// them.
+/// Fragments of the records so far, the greatest tick that passed behind the last of them, and the greatest tick among their
+/// own. Ticks in front of a moment at which all were forgotten aren't counted.
 #[derive(Drop)]
 pub struct Fragments {
     pub kept: Vec<Fragment>,
@@ -64,7 +64,7 @@ impl Fragments {
         Ok(())
     }
 
-    /// Forgets the fragments once no station's pools can hold one at this tick.
+    /// Forgets all fragments where each pool that they opened is over at this tick.
     pub fn fade(&mut self, now: Tick)
         ensures left { HasFragments self.old → (counts : List ℕ → Option Packet) → open_at now.0 (pools_left counts self.new) ≡ open_at now.0 (pools_left counts self.old) }
         ensures fragments { HasFragments self.old → HasFragments self.new }

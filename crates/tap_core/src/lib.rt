@@ -15,6 +15,8 @@ mod follow;
 mod fragments;
 // what the station hears from its peer
 mod heard;
+// the fragments that open pools hold
+mod held;
 // what holds of the definitions
 mod laws;
 // the station, and what it hears record by record
@@ -33,9 +35,9 @@ mod tally;
 mod tapping;
 // what a report tells
 mod telling;
-// which fragments can be forgotten
 #[cfg(test)]
 mod tests;
+// which of the fragments can be forgotten
 mod thinning;
 
 pub use ends::End;

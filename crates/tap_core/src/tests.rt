@@ -311,52 +311,70 @@ fn hears_fragments_in_front(rt: HostRuntime) -> Result<(), Fail> {
     Ok(())
 }
 
-/// Two frames that come in turns, a thousand times, in front of the segment that asks for the connection; whether they are
-/// forgotten; and how it ends where the answer's last fragment comes behind it.
-const TURNS: [(&str, [&str; 2], bool, End); 4] = [
+/// Frames that come in turns in front of the segment that asks for the connection, each with so much behind its packet that it
+/// is tried to forget some; whether these are forgotten; and how it ends where the answer's last fragment comes behind.
+const TURNS: [(&str, &[&str], bool, End); 5] = [
     (
         "a datagram that is whole",
-        [ACCEPT_FRONT, ACCEPT_REST],
+        &[ACCEPT_FRONT, ACCEPT_REST],
+        true,
+        End::NoConnection,
+    ),
+    (
+        "one that is whole, whose first fragment comes twice",
+        &[ACCEPT_FRONT, ACCEPT_FRONT, ACCEPT_REST],
         true,
         End::NoConnection,
     ),
     (
         "one that is whole to all but the station",
-        [ACCEPT_FRONT, OWN_REST],
+        &[ACCEPT_FRONT, OWN_REST],
         false,
         End::OutOfTime,
     ),
     (
         "one that is whole to no one but the station",
-        [OWN_FRONT, ACCEPT_REST],
+        &[OWN_FRONT, ACCEPT_REST],
         false,
         End::NoConnection,
     ),
     (
         "one that is open to all",
-        [ACCEPT_FRONT, ACCEPT_FRONT],
+        &[ACCEPT_FRONT, ACCEPT_FRONT],
         false,
         End::OutOfTime,
     ),
 ];
 
-fn keep_turns(rt: &impl Abort, alloc: Global, frames: &[&str; 2]) -> Result<usize, Fail> {
+/// The record of a frame with 65,536 octets behind it.
+fn long_record(alloc: Global, frame: &str) -> Result<Record, Fail> {
+    let mut octets = from_hex(alloc, frame)?.into_vec();
+    let len = octets.len().saturating_add(65_536);
+    octets.resize(len, 0)?;
+    Ok(Record {
+        tick: Tick(0),
+        frame: Bytes::from_vec(octets),
+    })
+}
+
+/// How many of the frames are kept that come in 60 turns.
+fn kept_of(rt: &impl Abort, alloc: Global, frames: &[&str]) -> Result<usize, Fail> {
     let mut early = Early::new(alloc);
-    for _ in 0..1_000 {
+    for _ in 0..60 {
         for frame in frames {
             early
-                .hear(alloc, record_of(alloc, 0, frame)?)
+                .hear(alloc, long_record(alloc, frame)?)
                 .expect(rt, "memory");
         }
     }
     Ok(early.fragments.kept.len())
 }
 
-fn end_behind_turns(rt: &impl Abort, alloc: Global, frames: &[&str; 2]) -> Result<End, Fail> {
+fn end_behind(rt: &impl Abort, alloc: Global, frames: &[&str]) -> Result<End, Fail> {
     let mut tap = Tap::new(alloc, 1).expect(rt, "memory");
-    for _ in 0..1_000 {
+    for _ in 0..60 {
         for frame in frames {
-            hear(rt, alloc, &mut tap, 0, frame)?;
+            tap.hear(long_record(alloc, frame)?).expect(rt, "memory");
         }
     }
     hear(rt, alloc, &mut tap, 1, SYN)?;
@@ -367,9 +385,9 @@ fn end_behind_turns(rt: &impl Abort, alloc: Global, frames: &[&str; 2]) -> Resul
 #[test]
 fn forgets_whole_datagrams(rt: HostRuntime) -> Result<(), Fail> {
     for (name, frames, forgets, end) in &TURNS {
-        let kept = keep_turns(&rt, rt.alloc(), frames)?;
-        assert_eq!(rt; kept < 2_000, *forgets, "{name}");
-        assert_eq!(rt; end_behind_turns(&rt, rt.alloc(), frames)?, *end, "{name}");
+        let kept = kept_of(&rt, rt.alloc(), frames)?;
+        assert_eq!(rt; kept < 64, *forgets, "{name}");
+        assert_eq!(rt; end_behind(&rt, rt.alloc(), frames)?, *end, "{name}");
     }
     Ok(())
 }

@@ -1,24 +1,22 @@
-//! Which of the fragments in front of the segment that asks for a connection can be forgotten: those of datagrams that are open
-//! to no station. Since a station's pools are of a limited number, that alone doesn't show it: what the others leave is compared
-//! with what all leave, station by station.
-ghost use Rattle.std.specs.Prelude.{◌≡◌, ◌∷◌, ◌++◌, [], true, false, List, ℕ, All, IfOk, IfSome, OnOk};
+//! Forgetting fragments in front of the segment that asks for a connection. What those leave that stay is compared with what
+//! all of them leave, station by station; which they are isn't here.
+ghost use Rattle.std.specs.Prelude.{◌≡◌, ◌∷◌, ◌++◌, [], true, false, List, ℕ, All, IfOk, IfSome, OnOk, length, vec_len};
 ghost use Rattle.std.specs.Str.{bytes_eq};
 ghost use Rattle.efi_base.specs.declared.plain.Record.{Record};
 ghost use Rattle.tap_core.specs.Early.{HasFragments, LeaveSame, is_among, packets_of, pools_left, IsNotFrom};
 ghost use Rattle.tap_core.specs.Frames.{heard_packet, is_sent};
 
 use crate::fragments::{Fragment, Fragments};
-use crate::packets::read_packet;
+use crate::held::held_fragments;
 use efi_base::{Bytes, Mac, NoMemory, Record};
-use ip_core::Reasm;
 use std::alloc::Global;
 use wire_link::read_ether;
 
 /// Fragments of more senders are kept: each sender is a station that hears all but its own, and it takes time to compare.
 const SENDERS: usize = 8;
 
-/// The fragments of datagrams that are open to some station, where they leave each station the same pools. None where they
-/// don't, where most of all are such, or where more than 8 stations sent them.
+/// The fragments that some station's open pools hold, where they leave each station the same pools. None where they
+/// don't, where most of all are such, or where more than 8 stations sent any.
 pub fn thinned(alloc: Global, f: &Fragments) -> Result<Option<Fragments>, NoMemory>
     ensures left { IfOk result (λ r. IfSome r (λ fewer. (station : List ℕ) → pools_left (heard_packet station) fewer ≡ pools_left (heard_packet station) f.now)) }
     ensures fragments { HasFragments f.now → IfOk result (λ r. IfSome r HasFragments) }
@@ -27,11 +25,11 @@ pub fn thinned(alloc: Global, f: &Fragments) -> Result<Option<Fragments>, NoMemo
     if !add_senders(&mut senders, &f.kept)? {
         return Ok(None);
     }
-    let open = open_fragments(alloc, f, &senders)?;
-    if are_most(&open) {
+    let held = held_fragments(alloc, f, &senders)?;
+    if are_most(&held) {
         return Ok(None);
     }
-    let fewer = only(alloc, f, &open)?;
+    let fewer = only(alloc, f, &held)?;
     if !leave_same(alloc, &fewer, f)? {
         return Ok(None);
     }
@@ -85,49 +83,21 @@ fn is_among(senders: &[Mac], sender: Mac) -> bool
     senders.iter().any(|known| known.0 == sender.0)
 }
 
-/// Which of the fragments are of a datagram that is open to one of the senders, or to a station that sent none.
-fn open_fragments(alloc: Global, f: &Fragments, senders: &[Mac]) -> Result<Vec<bool>, NoMemory> {
-    let Ok(mut open) = vec![in alloc; false; f.kept.len()] else {
-        return Err(NoMemory);
-    };
-    mark_open(&mut open, &f.kept, &f.pools(alloc, None)?);
-    for sender in senders {
-        mark_open(&mut open, &f.kept, &f.pools(alloc, Some(*sender))?);
-    }
-    Ok(open)
-}
-
-/// Marks the fragments whose datagram is open.
-fn mark_open(open: &mut [bool], kept: &[Fragment], pools: &Reasm) {
-    for (mark, fragment) in open.iter_mut().zip(kept) {
-        if is_open(pools, &fragment.record) {
-            *mark = true;
-        }
-    }
-}
-
-/// Whether the datagram of a record's fragment is open.
-fn is_open(pools: &Reasm, record: &Record) -> bool {
-    match read_packet(None, record.frame.as_slice()) {
-        Some(packet) => pools.is_open(&packet),
-        None => false,
-    }
-}
-
 /// Whether more than half of the marks are set.
 fn are_most(marks: &[bool]) -> bool {
     marks.iter().filter(|mark| **mark).count() > marks.len() / 2
 }
 
-/// The marked fragments alone; of the others their ticks pass.
+/// The marked fragments alone. The ticks of the others pass.
 fn only(alloc: Global, f: &Fragments, marks: &[bool]) -> Result<Fragments, NoMemory>
+    requires { length marks.now ≡ vec_len f.now.kept }
     ensures { HasFragments f.now → IfOk result HasFragments }
 {
     let mut some = Fragments::new(alloc);
     for place in 0..f.kept.len() {
         let fragment = &f.kept[place];
         some.pass(fragment.passed);
-        if place < marks.len() && marks[place] {
+        if marks[place] {
             some.keep(copy_of(alloc, &fragment.record)?)?;
         } else {
             some.pass(fragment.record.tick);

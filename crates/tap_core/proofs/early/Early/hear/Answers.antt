@@ -32,11 +32,11 @@ returns c = λ records h.
       pools = λ o.
           let counts = heard_packet o.station in
           c.in_ok-keep.ensures.left counts
-          ∙ ap (λ p. after_event bytes_kept p (event_heard o r)) (c.in_ok-thin.ensures.left o.station)
+          ∙ ap (λ p. after_event bytes_kept p (event_heard o r)) (c.thin.ensures.left o.station)
           ∙ event-same r.tick.0 (pools_left counts c.fade.new.self) (pools_left counts c.args.self.now.fragments) (counts r.frame) (c.fade.ensures.left h.fragments counts)
           ∙ ap (λ p. after_event bytes_kept p (event_heard o r)) (h.pools o)
           ∙ sym (pools-next o [] records r);
-      fragments = c.in_ok-keep.ensures.fragments (c.in_ok-thin.ensures.fragments (c.fade.ensures.fragments h.fragments))
+      fragments = c.in_ok-keep.ensures.fragments (c.thin.ensures.fragments (c.fade.ensures.fragments h.fragments))
           (ap holds_fragment (sym c.as_slice.ensures) ∙ sym c.holds_fragment.ensures ∙ c.if-not-holds_fragment.false);
       recent = inr (omega (arith, tick-next records r, c.in_ok-keep.ensures.latest));
     }

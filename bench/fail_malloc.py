@@ -10,7 +10,8 @@ ends as it should where its status is 6 and what it wrote is a front of what it 
 output are those with ample memory. Anything else is told: another status, a signal, other octets.
 
 The failing allocator is made with `cc` in a temporary folder and is loaded in front of the C library. The captures are
-samples/first.pcap, those of bench/extract.py with few octets, and one that is cut off. The status is 1 where the program ended
+samples/first.pcap, those of bench/extract.py with few octets, one that is cut off, and one behind 5 MB of fragments, so that
+some of these are forgotten. The status is 1 where the program ended
 otherwise. Needs `cc` and Python's standard library.
 """
 import argparse
@@ -66,6 +67,8 @@ __attribute__((destructor)) static void tell(void) {
 """
 NO_MEMORY = 6
 SMALL = 60_000
+HEADER = 24
+LONG = 80
 
 
 def allocator(folder):
@@ -85,6 +88,17 @@ def captures(folder):
     for kind in extract.KINDS:
         extract.write_capture(path, SMALL, kind)
         yield kind, pathlib.Path(path).read_bytes()
+    extract.write_capture(path, SMALL, "order")
+    small = pathlib.Path(path).read_bytes()
+    yield "long fragments", small[:HEADER] + b"".join(long_fragments()) + small[HEADER:]
+
+
+def long_fragments():
+    """Datagrams between others, in two fragments each, of so many octets that the first of them are forgotten."""
+    (src_mac, src, _), (dest_mac, dest, _) = extract.OTHERS
+    for number in range(LONG):
+        for flags, length in ((0x2000, 60_000), (60_000 // 8, 5_000)):
+            yield extract.packet_record(0, src_mac + dest_mac, (src, dest), 17, number, flags, bytes(length))
 
 
 def run(program, library, words, octets, number=0, later=False):

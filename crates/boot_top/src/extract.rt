@@ -119,10 +119,7 @@ fn answer_of(alloc: Global, task: ExtractTask, watched: Watched) -> Result<Answe
 {
     match watched {
         Watched::Capture(seen) => answer_seen(alloc, task, seen),
-        Watched::BadAt(place) => match bad_input_line(alloc, place) {
-            Ok(line) => Ok(Answer::Refused(line)),
-            Err(_) => Err(NoMemory),
-        },
+        Watched::BadAt(place) => Ok(Answer::Refused(bad_input_line(alloc, place)?)),
     }
 }
 

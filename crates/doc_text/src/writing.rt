@@ -12,10 +12,7 @@ use std::alloc::{AllocError, Global};
 pub fn report_text(alloc: Global, r: &Report) -> Result<Bytes, NoMemory>
     ensures { IfOk result (λ text. text ≡ report_text r.now) }
 {
-    match text_of(alloc, r) {
-        Ok(text) => Ok(Bytes::from_vec(text)),
-        Err(_) => Err(NoMemory),
-    }
+    Ok(Bytes::from_vec(text_of(alloc, r)?))
 }
 
 fn text_of(alloc: Global, r: &Report) -> Result<Vec<u8>, AllocError>

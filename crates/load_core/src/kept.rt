@@ -11,8 +11,6 @@ pub fn keep(kept: &mut Vec<u8>, most: usize, octets: &[u8]) -> Result<(), NoMemo
 {
     let left = most.saturating_sub(kept.len());
     let count = left.min(octets.len());
-    match kept.extend_from_slice(&octets[..count]) {
-        Ok(()) => Ok(()),
-        Err(_) => Err(NoMemory),
-    }
+    kept.extend_from_slice(&octets[..count])?;
+    Ok(())
 }

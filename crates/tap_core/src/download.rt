@@ -164,8 +164,5 @@ fn is_cut(segment: &Tcp<'_>) -> bool
 fn room_of(alloc: Global) -> Result<Vec<u8>, NoMemory>
     ensures { IfOk result (λ v. vec_len v ≡ 65536) }
 {
-    match vec![in alloc; 0; ROOM] {
-        Ok(room) => Ok(room),
-        Err(_) => Err(NoMemory),
-    }
+    Ok(vec![in alloc; 0; ROOM]?)
 }

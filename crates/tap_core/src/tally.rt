@@ -89,8 +89,6 @@ fn add_one(sent: &mut BTreeMap<[u8; 6], u64>, station: Mac) -> Result<(), NoMemo
     ensures { OnOk result ((other : List ℕ) → sent_of sent.new other ≡ sent_of sent.old other + (if bytes_eq station.0 other then 1 else 0)) }
 {
     let count = one_more(sent_by(sent, station))?;
-    match sent.insert(station.0, count) {
-        Ok(_) => Ok(()),
-        Err(_) => Err(NoMemory),
-    }
+    sent.insert(station.0, count)?;
+    Ok(())
 }

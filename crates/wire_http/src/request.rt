@@ -65,8 +65,5 @@ fn render(alloc: Global, uri: &Uri) -> Result<String, AllocError>
 pub fn request_text(alloc: Global, uri: &Uri) -> Result<Bytes, NoMemory>
     ensures { IfOk result (λ text. text ≡ request_text uri.now) }
 {
-    match render(alloc, uri) {
-        Ok(text) => Ok(Bytes::from_vec(text.into_bytes())),
-        Err(_) => Err(NoMemory),
-    }
+    Ok(Bytes::from_vec(render(alloc, uri)?.into_bytes()))
 }

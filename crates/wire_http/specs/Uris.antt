@@ -46,7 +46,8 @@ abbrev pub taken : Parsed Parts → Result Parts UriFault
 taken (Ok url) = unless_refused (refusal_of url) url
 taken (Err error) = Err fault.Bad
 
--- want of memory is told as such, and every other cause of the parser as a bad URL
+-- want of memory, and a URL that is longer than 32 bits count, are told as want of resources, and every other cause of
+-- the parser as a bad URL
 abbrev pub fault_of : ParseError → UriFault
 fault_of EmptyHost = fault.Bad
 fault_of IdnaError = fault.Bad

@@ -13,7 +13,7 @@ pub enum UriFault {
     /// The host is no unicast IPv4 address and no name.
     #[error("the host is neither a unicast IPv4 address nor a name")]
     Host,
-    /// There was no memory for the work.
+    /// There was no memory for the work, or the URL is longer than 32 bits count.
     #[error("no memory")]
     OutOfResources,
 }

@@ -6,7 +6,7 @@ use Rattle.std.proofs.Math.Seq.{drop-cons}
 use Rattle.byteorder.specs.Endian.{big_number, big_bytes}
 use Rattle.efi_base.specs.Checksum.{AreOctets}
 use Rattle.wire_link.specs.Ether.{frame_text, frame_in}
-use Rattle.wire_link.specs.Arp.{message_text, message_in, has_message}
+use Rattle.wire_link.specs.Arp.{arp_text, arp_in, has_arp}
 
 octets-drop : (n : ℕ) (bytes : List ℕ) → AreOctets bytes → AreOctets (drop n bytes)
 octets-drop n bytes h i = rw (get_or-drop n bytes i 0) (h (n + i))
@@ -58,9 +58,9 @@ pub frame-spelled : (bytes : List ℕ) → 14 ≤ length bytes → AreOctets byt
 frame-spelled bytes l h =
     six-at 0 bytes ∙ ap (λ rest. take 6 bytes ++ rest) (six-at 6 bytes ∙ ap (λ rest. take 6 (drop 6 bytes) ++ rest) (two-at 12 bytes l h))
 
-message-whole : (bytes : List ℕ) → 28 ≤ length bytes → AreOctets bytes → big_number 2 bytes ≡ 1 → big_number 2 (drop 2 bytes) ≡ 2048
-    → slice_index bytes 4 ≡ 6 → slice_index bytes 5 ≡ 4 → bytes ≡ message_text (message_in bytes) ++ drop 28 bytes
-message-whole bytes l h hardware protocol six four =
+arp-whole : (bytes : List ℕ) → 28 ≤ length bytes → AreOctets bytes → big_number 2 bytes ≡ 1 → big_number 2 (drop 2 bytes) ≡ 2048
+    → slice_index bytes 4 ≡ 6 → slice_index bytes 5 ≡ 4 → bytes ≡ arp_text (arp_in bytes) ++ drop 28 bytes
+arp-whole bytes l h hardware protocol six four =
     let target = six-at 18 bytes ∙ ap (λ rest. take 6 (drop 18 bytes) ++ rest) (four-at 24 bytes l h) in
     let sender = six-at 8 bytes ∙ ap (λ rest. take 6 (drop 8 bytes) ++ rest) (four-at 14 bytes (omega arith) h ∙ ap (λ rest. big_bytes 4 (big_number 4 (drop 14 bytes)) ++ rest) target) in
     let op = two-at 6 bytes (omega arith) h ∙ ap (λ rest. big_bytes 2 (big_number 2 (drop 6 bytes)) ++ rest) sender in
@@ -68,12 +68,12 @@ message-whole bytes l h hardware protocol six four =
     let all = two-at 0 bytes (omega arith) h ∙ ap (λ rest. big_bytes 2 (big_number 2 bytes) ++ rest) (two-at 2 bytes (omega arith) h ∙ ap (λ rest. big_bytes 2 (big_number 2 (drop 2 bytes)) ++ rest) lengths) in
     simp append_assoc (rw (hardware, protocol, six, four) at all)
 
--- what stands where a message is read
-pub message-spelled : (bytes : List ℕ) → has_message bytes ≡ true → AreOctets bytes → bytes ≡ message_text (message_in bytes) ++ drop 28 bytes
-message-spelled bytes there h =
+-- what stands where an ARP packet is read
+pub arp-spelled : (bytes : List ℕ) → has_arp bytes ≡ true → AreOctets bytes → bytes ≡ arp_text (arp_in bytes) ++ drop 28 bytes
+arp-spelled bytes there h =
     let a = and_parts _ _ there in
     let b = and_parts _ _ a.1 in
     let c = and_parts _ _ b.1 in
     let d = and_parts _ _ c.1 in
     let e = and_parts _ _ d.1 in
-    message-whole bytes (leb-true _ _ a.0) h (eqb-true _ _ b.0) (eqb-true _ _ c.0) (eqb-true _ _ d.0) (eqb-true _ _ e.0)
+    arp-whole bytes (leb-true _ _ a.0) h (eqb-true _ _ b.0) (eqb-true _ _ c.0) (eqb-true _ _ d.0) (eqb-true _ _ e.0)

@@ -1,15 +1,15 @@
-//! Address resolution for IPv4 over Ethernet (RFC 826). What is done with a message isn't here.
+//! Address resolution for IPv4 over Ethernet (RFC 826). What is done with a packet isn't here.
 ghost use Rattle.std.specs.Prelude.{◌≡◌, ◌++◌, take, drop, Some, IfOk};
 ghost use Rattle.efi_base.specs.Reads.{ReadsAs};
 ghost use Rattle.efi_base.specs.Writes.{Writes};
-ghost use Rattle.wire_link.specs.Arp.{IsMessage, IsOperation, has_message, message_of, message_text};
-ghost use Rattle.wire_link.specs.Seen.{message_seen};
+ghost use Rattle.wire_link.specs.Arp.{IsArpPacket, IsOperation, has_arp, arp_of, arp_text};
+ghost use Rattle.wire_link.specs.Seen.{arp_seen};
 
 use crate::fields::{mac_at, put_mac};
 use byteorder::{BigEndian, ByteOrder};
 use efi_base::{Bad, Ip4, Mac, NoRoom, put_parts, u16_at, u32_at};
 
-/// A message. `op` is the operation, which the reader and the writer want to be `REQUEST` or `REPLY`. `sha` and `spa`
+/// A packet. `op` is the operation, which the reader and the writer want to be `REQUEST` or `REPLY`. `sha` and `spa`
 /// are the addresses of the sender, `tha` and `tpa` those of the target.
 #[derive(Clone, Copy, PartialEq, Eq, Debug)]
 pub struct Arp {
@@ -25,21 +25,21 @@ pub const REQUEST: u16 = 1;
 
 pub const REPLY: u16 = 2;
 
-/// The octets of a message.
-const MESSAGE: usize = 28;
+/// The octets of a packet.
+const ARP_PACKET: usize = 28;
 
 /// Hardware that is Ethernet, and a protocol that is IPv4.
 const ETHERNET: u16 = 1;
 
 const IPV4: u16 = 0x0800;
 
-/// Reads a message. Octets behind it are padding.
+/// Reads a packet. Octets behind it are padding.
 pub fn read_arp(bytes: &[u8]) -> Result<Arp, Bad>
-    ensures read { ReadsAs message_seen result (message_of bytes.now) }
+    ensures read { ReadsAs arp_seen result (arp_of bytes.now) }
     // The first octets spell what was read.
-    ensures spelled { IfOk result (λ a. bytes.now ≡ message_text (message_seen a) ++ drop 28 bytes.now) }
+    ensures spelled { IfOk result (λ a. bytes.now ≡ arp_text (arp_seen a) ++ drop 28 bytes.now) }
 {
-    if !holds_message(bytes) {
+    if !holds_arp(bytes) {
         return Err(Bad);
     }
     Ok(Arp {
@@ -51,11 +51,11 @@ pub fn read_arp(bytes: &[u8]) -> Result<Arp, Bad>
     })
 }
 
-/// Whether a message stands in front.
-fn holds_message(bytes: &[u8]) -> bool
-    ensures { result ≡ has_message bytes.now }
+/// Whether a packet stands in front.
+fn holds_arp(bytes: &[u8]) -> bool
+    ensures { result ≡ has_arp bytes.now }
 {
-    if bytes.len() < MESSAGE {
+    if bytes.len() < ARP_PACKET {
         return false;
     }
     if u16_at(bytes, 0) != ETHERNET || u16_at(bytes, 2) != IPV4 {
@@ -68,23 +68,23 @@ fn holds_message(bytes: &[u8]) -> bool
     op == REQUEST || op == REPLY
 }
 
-/// Writes a message. `NoRoom` says that the room has fewer than 28 octets.
+/// Writes a packet. `NoRoom` says that the room has fewer than 28 octets.
 pub fn write_arp(v: &Arp, room: &mut [u8]) -> Result<usize, NoRoom>
     requires { IsOperation v.now.op }
-    ensures written { Writes (message_text (message_seen v.now)) room.old result room.new }
+    ensures written { Writes (arp_text (arp_seen v.now)) room.old result room.new }
     // What was written is read again.
-    ensures again { IfOk result (λ n. message_of (take n room.new) ≡ Some (message_seen v.now)) }
+    ensures again { IfOk result (λ n. arp_of (take n room.new) ≡ Some (arp_seen v.now)) }
 {
     put_parts(&text_of(*v), &[], room)
 }
 
-/// The octets of a message.
-fn text_of(v: Arp) -> [u8; MESSAGE]
+/// The octets of a packet.
+fn text_of(v: Arp) -> [u8; ARP_PACKET]
     requires { IsOperation v.op }
-    ensures text { result ≡ message_text (message_seen v) }
-    ensures spelled { IsMessage (message_seen v) }
+    ensures text { result ≡ arp_text (arp_seen v) }
+    ensures spelled { IsArpPacket (arp_seen v) }
 {
-    let mut octets = [0; MESSAGE];
+    let mut octets = [0; ARP_PACKET];
     BigEndian::write_u16(&mut octets, ETHERNET);
     BigEndian::write_u16(&mut octets[2..], IPV4);
     octets[4] = 6;

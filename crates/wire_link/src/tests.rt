@@ -1,4 +1,4 @@
-//! Frames and messages of a capture and of a session, read and written, and texts that are none.
+//! Frames and ARP packets of a capture and of a session, read and written, and texts that are none.
 use crate::{Arp, Ether, REPLY, REQUEST, read_arp, read_ether, write_arp, write_ether};
 use efi_base::{Bad, Ip4, Mac, NoRoom};
 use std::test::Fail;
@@ -90,7 +90,7 @@ fn writes_frames(rt: HostRuntime) {
 }
 
 #[test]
-fn reads_and_writes_messages(rt: HostRuntime) {
+fn reads_and_writes_arp_packets(rt: HostRuntime) {
     assert_eq!(rt; read_arp(&REQUEST_FRAME[14..]), Ok(ASKED));
     assert_eq!(rt; read_arp(&ANSWER), Ok(ANSWERED));
     let mut room = [0xee; 30];
@@ -113,9 +113,9 @@ fn reads_and_writes_messages(rt: HostRuntime) {
 
 /// The answer with another octet at this place.
 fn with_octet(place: usize, octet: u8) -> [u8; 28] {
-    let mut message = ANSWER;
-    if let Some(there) = message.get_mut(place) {
+    let mut packet = ANSWER;
+    if let Some(there) = packet.get_mut(place) {
         *there = octet;
     }
-    message
+    packet
 }

@@ -6,7 +6,7 @@ use Rattle.std.proofs.lemmas.List.{take_at}
 use Rattle.byteorder.specs.Endian.{big_bytes}
 use Rattle.efi_base.specs.Checksum.{checksum_of, AreOctets}
 use Rattle.efi_base.proofs.Filling.{filled-in}
-use Rattle.wire_ip4.specs.Message.{Message, IsMessage, front_text, message_text, message_of, message_in, has_message}
+use Rattle.wire_ip4.specs.Message.{IcmpMessage, IsIcmpMessage, front_text, message_text, message_of, message_in, has_message}
 use Rattle.wire_ip4.specs.Packet.{Packet, IsPacket, packet_text, header_text, fragment_number, packet_of, packet_in, has_packet, has_right_header}
 
 -- the numbers of two and of four octets
@@ -108,15 +108,15 @@ kind-octets kind code h k (suc zero) = k
 kind-octets kind code h k (suc (suc i)) = omega arith
 
 -- the checksum of all of the message that was filled in
-message-sums : (m : Message) → IsMessage m → checksum_of (message_text m) ≡ 0
+message-sums : (m : IcmpMessage) → IsIcmpMessage m → checksum_of (message_text m) ≡ 0
 message-sums m h =
     filled-in (m.kind ∷ m.code ∷ []) (big_bytes 4 m.rest ++ m.payload) (kind-octets m.kind m.code h.kind h.code) (rest-octets m.rest m.payload h.payload) refl
 
-message-there : (m : Message) → IsMessage m → has_message (message_text m) ≡ true
+message-there : (m : IcmpMessage) → IsIcmpMessage m → has_message (message_text m) ≡ true
 message-there m h = rw (message-sums m h) (grind (arith, nat_tests))
 
-message-parts : (m : Message) (sum : ℕ) → IsMessage m → message_in (front_text m sum ++ m.payload) ≡ m
+message-parts : (m : IcmpMessage) (sum : ℕ) → IsIcmpMessage m → message_in (front_text m sum ++ m.payload) ≡ m
 message-parts m sum h = rw (four m.rest h.rest) refl
 
-pub message-again : (m : Message) → IsMessage m → message_of (message_text m) ≡ Some m
+pub message-again : (m : IcmpMessage) → IsIcmpMessage m → message_of (message_text m) ≡ Some m
 message-again m h = rw (message-there m h, message-parts m (checksum_of (front_text m 0 ++ m.payload)) h) refl

@@ -1,7 +1,7 @@
 -- The values of the crate as contracts see them.
 use Rattle.wire_ip4.specs.declared.message.Icmp.{Icmp}
 use Rattle.wire_ip4.specs.declared.packet.Ip.{Ip}
-use Rattle.wire_ip4.specs.Message.{Message}
+use Rattle.wire_ip4.specs.Message.{IcmpMessage}
 use Rattle.wire_ip4.specs.Packet.{Packet}
 
 -- a packet without where it lies in memory
@@ -19,5 +19,5 @@ packet_seen p = record {
 }
 
 -- a message without where it lies in memory
-abbrev pub message_seen : Icmp → Message
+abbrev pub message_seen : Icmp → IcmpMessage
 message_seen m = record { kind = m.kind; code = m.code; rest = m.rest; payload = m.payload.now }

@@ -12,7 +12,7 @@ use Rattle.wire_http.proofs.PieceLaws.{so_far_unique}
 use Rattle.wire_http.proofs.ResponseLaws.{heads_unique}
 use Rattle.load_core.specs.declared.met.Met.{Met}
 use Rattle.load_core.specs.declared.met.Met.TheVariants.{Success, BadResponse, HttpStatus, Coding, BufferTooSmall}
-use Rattle.load_core.specs.Met.{HasFinal, IsLengthSoFar, IsLength, Meets, place_of}
+use Rattle.load_core.specs.Met.{HasFinal, IsLengthSoFar, IsLength, Meets, case_place}
 
 -- what holds of the one final head and its rest holds of the other
 at_same : (stream : List ℕ) (P Q : ResponseHead → List ℕ → Type 0) (x : HasFinal stream P) → HasFinal stream Q → Q x.1 x.2
@@ -63,7 +63,7 @@ small_one most stream n m x y =
     ap (λ (k : ℕ). BufferTooSmall k) (length_one (framing_of 200 (fields_of x.1)) x.2 n m x.4.2 other.2)
 
 pub met-one : (most : ℕ) (stream : List ℕ) (fin : Bool) (a b : Met) → Meets most stream fin a → Meets most stream fin b
-    → place_of a ≡ place_of b → a ≡ b
+    → case_place a ≡ case_place b → a ≡ b
 met-one most stream fin Success Success x y e = refl
 met-one most stream fin Success (BadResponse p) x y e = absurd (omega arith)
 met-one most stream fin Success (HttpStatus s) x y e = absurd (omega arith)

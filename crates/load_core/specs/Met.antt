@@ -39,16 +39,16 @@ Meets most stream fin (BufferTooSmall n) =
     × IsLength (framing_of 200 (fields_of head)) rest n × (most < n))
 
 -- the place of a case in the order
-abbrev pub place_of : Met → ℕ
-place_of Success = 0
-place_of (BadResponse part) = 1
-place_of (HttpStatus s) = 2
-place_of (Coding field) = 3
-place_of (BufferTooSmall n) = 4
+abbrev pub case_place : Met → ℕ
+case_place Success = 0
+case_place (BadResponse part) = 1
+case_place (HttpStatus s) = 2
+case_place (Coding field) = 3
+case_place (BufferTooSmall n) = 4
 
 -- the other case is the same, or comes later in the order
 abbrev pub IsFirst : Met → Met → Type 0
-IsFirst met other = (other ≡ met) ⊎ (place_of met < place_of other)
+IsFirst met other = (other ≡ met) ⊎ (case_place met < case_place other)
 
 -- the answer is the first case that is met, and None where none is
 abbrev pub IsFirstMet : ℕ → List ℕ → Bool → Option Met → Type 0

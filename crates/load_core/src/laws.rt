@@ -1,6 +1,6 @@
 //! What holds of the cases, for every stream: each law is the contract of a function that does nothing.
 ghost use Rattle.std.specs.Prelude.{◌≡◌, ℕ, Bool, List};
-ghost use Rattle.load_core.specs.Met.{Meets, place_of};
+ghost use Rattle.load_core.specs.Met.{Meets, case_place};
 
 use crate::met::Met;
 
@@ -8,5 +8,5 @@ use crate::met::Met;
 /// the first kind is one by `wire_http::whole_is_one`.
 pub fn met_is_one()
     ensures { (most : ℕ) → (stream : List ℕ) → (fin : Bool) → (a b : Met) → Meets most stream fin a → Meets most stream fin b
-        → place_of a ≡ place_of b → a ≡ b }
+        → case_place a ≡ case_place b → a ≡ b }
 {}

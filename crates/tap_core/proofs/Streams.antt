@@ -6,7 +6,7 @@ use Rattle.tcp_recv.specs.Receiver.{Receiver, accepted_of, is_ended}
 use Rattle.tcp_recv.proofs.Standing.{stands-front, accepted-stands}
 use Rattle.wire_l4.specs.Segment.{Segment}
 use Rattle.wire_http.specs.Response.{IsWhole}
-use Rattle.load_core.specs.Met.{Meets, IsFirst, place_of}
+use Rattle.load_core.specs.Met.{Meets, IsFirst, case_place}
 use Rattle.load_core.specs.declared.met.Met.{Met}
 use Rattle.load_core.specs.declared.met.Met.TheVariants as met
 use Rattle.load_core.specs.Taken.{HasTaken}
@@ -79,18 +79,18 @@ after-Follows most irs board d s h f =
     ∙ ap (λ n. after_cut irs tap_window n board (cut_of s)) count ∙ sym (after_segment-cut irs board s h)
 
 -- the place of a case of the response
-order-same : (m : Met) (len : ℕ) → order (end_of m len) ≤ place_of m
+order-same : (m : Met) (len : ℕ) → order (end_of m len) ≤ case_place m
 order-same met.Success len = omega arith
 order-same (met.BadResponse part) len = omega arith
 order-same (met.HttpStatus s) len = omega arith
 order-same (met.Coding field) len = omega arith
 order-same (met.BufferTooSmall n) len = omega arith
 
-order-below : (m other : Met) (len : ℕ) → place_of m < place_of other → order (end_of m len) ≤ place_of other
+order-below : (m other : Met) (len : ℕ) → case_place m < case_place other → order (end_of m len) ≤ case_place other
 order-below m other len h = omega (arith, order-same m len, h)
 
-order-le : (m other : Met) (len : ℕ) → IsFirst m other → order (end_of m len) ≤ place_of other
-order-le m other len (inl e) = subst (λ x. order (end_of m len) ≤ place_of x) (sym e) (order-same m len)
+order-le : (m other : Met) (len : ℕ) → IsFirst m other → order (end_of m len) ≤ case_place other
+order-le m other len (inl e) = subst (λ x. order (end_of m len) ≤ case_place x) (sym e) (order-same m len)
 order-le m other len (inr h) = order-below m other len h
 
 order-early : (m : Met) (len : ℕ) → order (end_of m len) ≤ 4

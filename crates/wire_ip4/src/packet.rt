@@ -100,7 +100,7 @@ fn packet_at(bytes: &[u8]) -> Ip<'_>
         id: u16_at(bytes, 4),
         df: may_not_fragment(word),
         mf: has_more(word),
-        place: place_of(word),
+        place: fragment_place(word),
         ttl: bytes[8],
         payload: &bytes[header_len(bytes)..total_len(bytes)],
     }
@@ -124,7 +124,7 @@ fn has_more(word: u16) -> bool
 
 /// The place in octets.
 #[tactic(auto, using(crate::proofs::Masks::low_place))]
-fn place_of(word: u16) -> u16
+fn fragment_place(word: u16) -> u16
     ensures { result ≡ word % 8192 * 8 }
 {
     (word & PLACE) * 8

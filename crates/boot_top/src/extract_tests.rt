@@ -18,7 +18,7 @@ use crate::capture_tests::{Form, Writer, begun};
 use crate::frame_tests::joined;
 use crate::sent_tests::{Plan, put_step};
 use crate::step_tests::step_of;
-use crate::text_tests::{field_of, number_of, octets_of, rows_of, word_of};
+use crate::text_tests::{field_of, octets_of, parsed_number, rows_of, word_of};
 use crate::{BAD_INPUT, ENDED_OTHERWISE, SUCCESS, run};
 use efi_base::{DropSink, MemSink, MemSource};
 use std::alloc::{AllocError, Global};
@@ -266,10 +266,10 @@ pub(crate) fn run_over(
 
 /// The capture of a row.
 fn capture_of(alloc: Global, lines: &str, form: Form) -> Result<Vec<u8>, Fail> {
-    let Some(iss) = number_of(line_or(lines, "station", "65536")) else {
+    let Some(iss) = parsed_number(line_or(lines, "station", "65536")) else {
         return Err(Fail::new("a number of the station"));
     };
-    let Some(irs) = number_of(line_or(lines, "peer", "1000")) else {
+    let Some(irs) = parsed_number(line_or(lines, "peer", "1000")) else {
         return Err(Fail::new("a number of the peer"));
     };
     let stream = octets_of(alloc, line_or(lines, "stream", STREAM))?;

@@ -11,7 +11,7 @@
 //! gives the status | what is written
 //! ```
 use crate::extract_tests::{answer_of, are_known, check_told, line_of, line_or, run_over};
-use crate::text_tests::{field_of, number_of, octets_of, rows_of};
+use crate::text_tests::{field_of, octets_of, parsed_number, rows_of};
 use crate::{BAD_WORDS, NOT_BUILT};
 use efi_base::{MemSink, MemSource};
 use std::alloc::Global;
@@ -152,7 +152,7 @@ fn capture_of(alloc: Global, lines: &str) -> Result<Vec<u8>, Fail> {
     let Some(text) = text_of(line_or(lines, "capture", "first")) else {
         return Err(Fail::new("a capture that isn't known"));
     };
-    let Some(length) = number_of(line_or(lines, "length", "273")) else {
+    let Some(length) = parsed_number(line_or(lines, "length", "273")) else {
         return Err(Fail::new("a length of a capture"));
     };
     let mut octets = from_hex(alloc, text)?;
@@ -182,7 +182,7 @@ fn turn_order(octets: &mut [u8]) {
 
 /// The number of the failing call, or 0, which is none.
 fn failing_of(alloc: Global, lines: &str, word: &str) -> Result<Vec<u64>, Fail> {
-    let Some(number) = number_of(line_or(lines, word, "0")) else {
+    let Some(number) = parsed_number(line_or(lines, word, "0")) else {
         return Err(Fail::new("a number of a call"));
     };
     Ok(vec![in alloc; u64::from(number)]?)

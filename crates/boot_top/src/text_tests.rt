@@ -41,7 +41,7 @@ pub(crate) fn field_of(text: &str) -> Option<(&str, &str)> {
     Some((field.trim(), rest.trim()))
 }
 
-pub(crate) fn number_of(text: &str) -> Option<u32> {
+pub(crate) fn parsed_number(text: &str) -> Option<u32> {
     match text.parse::<u32>() {
         Ok(number) => Some(number),
         Err(_) => None,
@@ -51,13 +51,13 @@ pub(crate) fn number_of(text: &str) -> Option<u32> {
 /// A number and the text behind it, which may be empty.
 pub(crate) fn first_number(text: &str) -> Option<(u32, &str)> {
     let (word, rest) = word_of(text);
-    Some((number_of(word)?, rest))
+    Some((parsed_number(word)?, rest))
 }
 
 /// Two numbers.
 pub(crate) fn pair_of(text: &str) -> Option<(u32, u32)> {
     let (first, rest) = first_number(text)?;
-    Some((first, number_of(rest)?))
+    Some((first, parsed_number(rest)?))
 }
 
 /// The octets of a text, in which `\r`, `\n` and `\s` stand for the two octets that end a line and for a blank, and `\\` for `\`.

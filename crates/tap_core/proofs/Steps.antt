@@ -8,7 +8,7 @@ use Rattle.tap_core.specs.declared.ends.End.{End}
 use Rattle.tap_core.specs.declared.listening.Listener.{Listener}
 use Rattle.tap_core.specs.declared.opening.Syn.{Syn}
 use Rattle.tap_core.specs.declared.passive.Seen.{Seen}
-use Rattle.tap_core.specs.Answering.{number_of}
+use Rattle.tap_core.specs.Answering.{accepting_number}
 use Rattle.tap_core.specs.Connections.{accepts_at, after_heard, board_after, is_reset_at}
 use Rattle.tap_core.specs.Ends.{IsFirstEnd, IsFirstEndAt}
 use Rattle.tap_core.specs.Following.{Follows}
@@ -33,7 +33,7 @@ answering-first records r l o e none asked listens = record {
 
 -- it doesn't accept it
 pub answering-next : (records : List Record) (r : Record) (l l' : Listener) → l'.syn ≡ l.syn → IsAnswering records l
-    → None ≡ number_of (syn_seen l.syn).seq (heard_next (syn_seen l.syn) records r) → Listens (records ++ r ∷ []) l' → IsAnswering (records ++ r ∷ []) l'
+    → None ≡ accepting_number (syn_seen l.syn).seq (heard_next (syn_seen l.syn) records r) → Listens (records ++ r ∷ []) l' → IsAnswering (records ++ r ∷ []) l'
 answering-next records r l l' e a none listens =
     let o = syn_seen l.syn in
     record {
@@ -46,7 +46,7 @@ answering-next records r l l' e a none listens =
 
 -- it does
 pub following-first : (most : ℕ) (records : List Record) (r : Record) (l l' : Listener) (irs : ℕ) (d : Download) → l'.syn ≡ l.syn → IsAnswering records l
-    → Some irs ≡ number_of (syn_seen l.syn).seq (heard_next (syn_seen l.syn) records r) → Listens (records ++ r ∷ []) l'
+    → Some irs ≡ accepting_number (syn_seen l.syn).seq (heard_next (syn_seen l.syn) records r) → Listens (records ++ r ∷ []) l'
     → Follows most irs empty d → 0 < vec_len d.room → IsFollowing most (records ++ r ∷ []) l' d
 following-first most records r l l' irs d e a there listens follows room =
     let place = suc a.at + suc (length (heard_behind records a.at (syn_seen l.syn))) in

@@ -9,7 +9,7 @@ use Rattle.tcp_recv.specs.Stream.{Board, empty}
 use Rattle.tap_core.specs.declared.ends.End.{End}
 use Rattle.tap_core.specs.declared.ends.End.TheVariants.{OutOfTime, NoConnection}
 use Rattle.tap_core.specs.declared.passive.Seen.{Seen}
-use Rattle.tap_core.specs.Answering.{number_of}
+use Rattle.tap_core.specs.Answering.{accepting_number}
 use Rattle.tap_core.specs.Connections.{Connects, accepts_at, board_after}
 use Rattle.tap_core.specs.Ends.{EndsBehind, MeetNothing, IsFirstEndAt}
 use Rattle.tap_core.specs.Heard.{segments_heard}
@@ -48,7 +48,7 @@ if-none true n e = search rules
 if-none false n e = refl
 
 -- a record that gives no number accepts nothing
-number-none : (seq : ℕ) (h : Option Segment) → None ≡ number_of seq h → accepts_at seq h ≡ false
+number-none : (seq : ℕ) (h : Option Segment) → None ≡ accepting_number seq h → accepts_at seq h ≡ false
 number-none seq None e = refl
 number-none seq (Some s) e = if-none (accepts seq s) s.seq e
 
@@ -56,13 +56,13 @@ if-some : (b : Bool) (n m : ℕ) → Some n ≡ (if b then Some m else None) →
 if-some true n m e = (refl, search rules)
 if-some false n m e = search rules
 
-number-some : (seq n : ℕ) (h : Option Segment) → Some n ≡ number_of seq h → (s : Segment) × (h ≡ Some s) × IsTrue (accepts seq s) × (n ≡ s.seq)
+number-some : (seq n : ℕ) (h : Option Segment) → Some n ≡ accepting_number seq h → (s : Segment) × (h ≡ Some s) × IsTrue (accepts seq s) × (n ≡ s.seq)
 number-some seq n None e = search rules
 number-some seq n (Some s) e = let both = if-some (accepts seq s) n s.seq e in (s, refl, both.0, both.1)
 
 -- no record accepted the connection, and one more doesn't
 pub answers-none : (o : Opening) (records : List Record) (n : ℕ) (r : Record) → n < length records
-    → All (λ h. accepts_at o.seq h ≡ false) (heard_behind records n o) → None ≡ number_of o.seq (heard_next o records r)
+    → All (λ h. accepts_at o.seq h ≡ false) (heard_behind records n o) → None ≡ accepting_number o.seq (heard_next o records r)
     → All (λ h. accepts_at o.seq h ≡ false) (heard_behind (records ++ r ∷ []) n o)
 answers-none o records n r h before none =
     subst (All (λ h. accepts_at o.seq h ≡ false)) (sym (behind-next o records n r h))
@@ -71,7 +71,7 @@ answers-none o records n r h before none =
 
 -- the first that does
 pub answers-first : (o : Opening) (records : List Record) (n : ℕ) (r : Record) (irs : ℕ) → IsFirstAt (openings_of records) n o
-    → All (λ h. accepts_at o.seq h ≡ false) (heard_behind records n o) → Some irs ≡ number_of o.seq (heard_next o records r)
+    → All (λ h. accepts_at o.seq h ≡ false) (heard_behind records n o) → Some irs ≡ accepting_number o.seq (heard_next o records r)
     → HasConnection (records ++ r ∷ []) o irs (suc n + suc (length (heard_behind records n o))) []
 answers-first o records n r irs first before there =
     let found = number-some o.seq irs (heard_next o records r) there in

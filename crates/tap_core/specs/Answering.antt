@@ -5,5 +5,5 @@ use Rattle.wire_l4.specs.Segment.{Segment}
 use Rattle.tap_core.specs.Segments.{accepts}
 
 -- the number of a segment that accepts the connection
-abbrev pub number_of : ℕ → Option Segment → Option ℕ
-number_of seq heard = option_and_then (λ s. if accepts seq s then Some s.seq else None) heard
+abbrev pub accepting_number : ℕ → Option Segment → Option ℕ
+accepting_number seq heard = option_and_then (λ s. if accepts seq s then Some s.seq else None) heard

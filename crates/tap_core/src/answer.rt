@@ -4,7 +4,7 @@ ghost use Rattle.ip_core.specs.Bytes.{bytes_kept};
 ghost use Rattle.ip_core.specs.Datagrams.{after_event};
 ghost use Rattle.ip_core.specs.Seen.{whole_seen};
 ghost use Rattle.wire_l4.specs.Seen.{segment_seen};
-ghost use Rattle.tap_core.specs.Answering.{number_of};
+ghost use Rattle.tap_core.specs.Answering.{accepting_number};
 ghost use Rattle.tap_core.specs.Heard.{segment_in};
 ghost use Rattle.tap_core.specs.Hearing.{event_heard, heard_at};
 ghost use Rattle.tap_core.specs.Seen.{syn_seen};
@@ -19,7 +19,7 @@ use wire_l4::{ACK, RST, SYN, Tcp};
 
 /// Takes in the packet of a record, and answers the number of the segment that is heard at it and accepts the connection.
 pub fn answer_at(syn: &Syn, reasm: &mut Reasm, record: &Record) -> Option<u32>
-    ensures number { result ≡ number_of (syn_seen syn.now).seq (heard_at (syn_seen syn.now) reasm.old «record».now) }
+    ensures number { result ≡ accepting_number (syn_seen syn.now).seq (heard_at (syn_seen syn.now) reasm.old «record».now) }
     ensures pools { reasm.new ≡ after_event bytes_kept reasm.old (event_heard (syn_seen syn.now) «record».now) }
 {
     let Some(packet) = read_heard(syn.station, record.frame.as_slice()) else {
@@ -33,7 +33,7 @@ pub fn answer_at(syn: &Syn, reasm: &mut Reasm, record: &Record) -> Option<u32>
 }
 
 fn answer_in(syn: &Syn, whole: &Whole<'_>) -> Option<u32>
-    ensures { result ≡ number_of (syn_seen syn.now).seq (segment_in (syn_seen syn.now) (whole_seen whole.now)) }
+    ensures { result ≡ accepting_number (syn_seen syn.now).seq (segment_in (syn_seen syn.now) (whole_seen whole.now)) }
 {
     let Some(segment) = segment_of(syn, whole) else {
         return None;

@@ -2,7 +2,7 @@
 ghost use Rattle.std.specs.Prelude.{◌≡◌, ◌<◌, ◌∷◌, ◌++◌, [], ℕ, List, IfOk, OnOk, vec_len};
 ghost use Rattle.efi_base.specs.declared.plain.Record.{Record};
 ghost use Rattle.tcp_recv.specs.Stream.{Board};
-ghost use Rattle.tap_core.specs.Answering.{number_of};
+ghost use Rattle.tap_core.specs.Answering.{accepting_number};
 ghost use Rattle.tap_core.specs.Connections.{after_heard, is_reset_at};
 ghost use Rattle.tap_core.specs.Counting.{Tallies};
 ghost use Rattle.tap_core.specs.Early.{KeepsFragments};
@@ -49,7 +49,7 @@ pub fn listen(
 pub fn hear_answer(l: &mut Listener, record: &Record) -> Result<Option<u32>, NoMemory>
     ensures syn { l.new.syn ≡ l.old.syn }
     ensures number { (records : List Record) → Listens records l.old
-        → IfOk result (λ irs. irs ≡ number_of (syn_seen l.old.syn).seq (heard_at (syn_seen l.old.syn) (pools_from (syn_seen l.old.syn) [] records) «record».now)) }
+        → IfOk result (λ irs. irs ≡ accepting_number (syn_seen l.old.syn).seq (heard_at (syn_seen l.old.syn) (pools_from (syn_seen l.old.syn) [] records) «record».now)) }
     ensures listens { (records : List Record) → Listens records l.old → OnOk result (Listens (records ++ «record».now ∷ []) l.new) }
 {
     l.counts = count_one(l.syn.station, l.counts, record)?;

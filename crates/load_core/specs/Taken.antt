@@ -8,7 +8,7 @@ use Rattle.wire_http.specs.declared.head.Framing.{Framing}
 use Rattle.wire_http.specs.declared.head.Framing.TheVariants as framing
 use Rattle.wire_http.specs.declared.head.HeadInfo.{HeadInfo}
 use Rattle.wire_http.specs.Body.{HoldsSoFar}
-use Rattle.wire_http.specs.Feeding.{HasRead, IsState}
+use Rattle.wire_http.specs.Feeding.{BodyHasRead, IsState}
 use Rattle.wire_http.specs.Heads.{fields_of, HasHeads}
 use Rattle.wire_http.specs.Info.{IsInfo}
 use Rattle.wire_http.specs.Response.{HasNoHeads, HasBadHead, HasBadHeads}
@@ -25,7 +25,7 @@ room_of info most = if info.status == 200 && is_none info.coding then most else 
 
 -- the rest of the stream was read, and these are the octets of the body that it fixes
 pub record Reads (r : Reading) (rest octets : List ℕ) : Type 0 where
-  pub read : HasRead r.body r.info.framing rest
+  pub read : BodyHasRead r.body r.info.framing rest
   pub state : IsState r.state r.info.framing false rest
   pub so_far : HoldsSoFar r.info.framing rest octets
   pub count : r.count ≡ length octets

@@ -12,8 +12,8 @@ use Rattle.wire_http.specs.declared.stage.Stage.TheVariants as stage
 use Rattle.wire_http.specs.Stages.{walk, start}
 
 -- the reader was made for the framing, and has read these octets since
-abbrev pub HasRead : Body → Framing → List ℕ → Type 0
-HasRead body framing read = (walk (start framing) read).1 ≡ body.stage
+abbrev pub BodyHasRead : Body → Framing → List ℕ → Type 0
+BodyHasRead body framing read = (walk (start framing) read).1 ≡ body.stage
 
 -- Whole exactly where the octets hold a whole body, and Bad with its part exactly where they are no body, whatever
 -- follows; so More exactly where neither is so

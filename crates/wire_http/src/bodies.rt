@@ -1,7 +1,7 @@
 //! The body behind a final head, read in pieces however they are cut (RFC 9112, sections 6.3 and 7.1).
 ghost use Rattle.std.specs.Prelude.{◌≡◌, ◌≢◌, ◌≤◌, ◌<◌, ◌⊎◌, ◌++◌, ℕ, true, false, List, [], length, take, drop};
 ghost use Rattle.wire_http.specs.Body.{HoldsSoFar};
-ghost use Rattle.wire_http.specs.Feeding.{HasRead, IsState, IsNextOctet, answer, answer_at_end};
+ghost use Rattle.wire_http.specs.Feeding.{BodyHasRead, IsState, IsNextOctet, answer, answer_at_end};
 ghost use Rattle.wire_http.specs.declared.bodies.BodyState.TheVariants.{More};
 
 use crate::head::Framing;
@@ -63,7 +63,7 @@ fn state_at_end(stage: Stage) -> BodyState
 impl Body {
     /// A reader of a body with this framing.
     pub fn new(framing: Framing) -> Body
-        ensures read { HasRead result framing [] }
+        ensures read { BodyHasRead result framing [] }
         ensures placed { HoldsSoFar framing [] [] }
     {
         Body {
@@ -74,15 +74,15 @@ impl Body {
     /// Reads a piece, and places the octets of the body that it brings. Where the body is whole or bad, nothing more is
     /// read.
     pub fn feed(&mut self, piece: &[u8], place: &mut [u8]) -> Fed
-        ensures read { (framing : Framing) → (read : List ℕ) → HasRead self.old framing read
-            → HasRead self.new framing (read ++ take result.read piece.now) }
-        ensures state { (framing : Framing) → (read : List ℕ) → HasRead self.old framing read
+        ensures read { (framing : Framing) → (read : List ℕ) → BodyHasRead self.old framing read
+            → BodyHasRead self.new framing (read ++ take result.read piece.now) }
+        ensures state { (framing : Framing) → (read : List ℕ) → BodyHasRead self.old framing read
             → IsState result.state framing false (read ++ take result.read piece.now) }
-        ensures placed { (framing : Framing) → (read before : List ℕ) → HasRead self.old framing read → HoldsSoFar framing read before
+        ensures placed { (framing : Framing) → (read before : List ℕ) → BodyHasRead self.old framing read → HoldsSoFar framing read before
             → HoldsSoFar framing (read ++ take result.read piece.now) (before ++ take result.placed place.new) }
-        ensures early { (framing : Framing) → (read : List ℕ) → HasRead self.old framing read
+        ensures early { (framing : Framing) → (read : List ℕ) → BodyHasRead self.old framing read
             → (k : ℕ) → k < result.read → IsState More framing false (read ++ take k piece.now) }
-        ensures stops { (framing : Framing) → (read : List ℕ) → HasRead self.old framing read → result.read < length piece.now
+        ensures stops { (framing : Framing) → (read : List ℕ) → BodyHasRead self.old framing read → result.read < length piece.now
             → (result.state ≢ More) ⊎ ((result.placed ≡ length place.old)
             × ((b : ℕ) → IsNextOctet framing (read ++ take result.read piece.now) b)) }
         ensures read_most { result.read ≤ length piece.now }
@@ -101,7 +101,7 @@ impl Body {
 
     /// How far the body is where the stream ends here.
     pub fn fin(&self) -> BodyState
-        ensures { (framing : Framing) → (read : List ℕ) → HasRead self.now framing read → IsState result framing true read }
+        ensures { (framing : Framing) → (read : List ℕ) → BodyHasRead self.now framing read → IsState result framing true read }
     {
         state_at_end(self.stage)
     }

@@ -18,11 +18,11 @@ const MOST_LABEL: usize = 63;
 
 /// A name of at most 255 octets, kept in place.
 #[derive(Debug, Drop)]
-pub struct Name {
+pub struct HostName {
     octets: ArrayVec<u8, MOST_NAME>,
 }
 
-impl Model for Name {
+impl Model for HostName {
     ghost use Rattle.std.specs.Prelude.{ℕ, List};
 
     ghost Value = { List ℕ };
@@ -30,13 +30,13 @@ impl Model for Name {
     ghost view = { λ name. name.octets.items };
 }
 
-impl Name {
+impl HostName {
     /// A copy of the octets.
-    pub fn from_slice(octets: &[u8]) -> Name
+    pub fn from_slice(octets: &[u8]) -> HostName
         requires { length octets.now ≤ MOST_NAME }
         ensures { result ≡ octets.now }
     {
-        Name {
+        HostName {
             octets: kept(octets),
         }
     }
@@ -52,7 +52,7 @@ impl Name {
 #[derive(Debug, Drop)]
 pub enum Host {
     At(Ip4),
-    Named(Name),
+    Named(HostName),
 }
 
 fn kept(octets: &[u8]) -> ArrayVec<u8, MOST_NAME>

@@ -6,7 +6,7 @@ ghost use Rattle.url.specs.Parts.{Parts};
 ghost use Rattle.url.specs.Parser.{parse_url};
 ghost use Rattle.wire_http.specs.Uris.{uri_of, taken, answer_to, fault_of, AnswersUri, refusal_of, is_plain_host, is_unicast, host_of, port_of};
 
-use crate::hosts::{Host, Name, is_host_name};
+use crate::hosts::{Host, HostName, is_host_name};
 use crate::uri_fault::UriFault;
 use efi_base::Ip4;
 use std::alloc::Global;
@@ -48,7 +48,7 @@ impl Uri {
     {
         match self.url.host() {
             Some(url::Host::Ipv4(address)) => Host::At(Ip4(address.to_bits())),
-            Some(url::Host::Domain(name)) => Host::Named(Name::from_slice(name.as_bytes())),
+            Some(url::Host::Domain(name)) => Host::Named(HostName::from_slice(name.as_bytes())),
             _ => unreachable!(),
         }
     }

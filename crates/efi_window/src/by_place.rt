@@ -46,7 +46,7 @@ impl Model for Window {
 }
 
 impl Window {
-    /// An empty window of so many octets. Only this call takes memory.
+    /// An empty window of so many octets. Only this call and `try_clone` take memory.
     pub fn open(alloc: Global, cap: u32) -> Result<Window, NoMemory>
         ensures { IfOk result (λ w. w ≡ fresh cap cap) }
     {
@@ -58,6 +58,23 @@ impl Window {
             taken: 0,
             origin: 0,
             span: 0,
+            ring,
+            words,
+        })
+    }
+
+    /// A window that keeps the same, with memory of its own for all of it.
+    pub fn try_clone(&self, alloc: Global) -> Result<Window, NoMemory>
+        ensures { IfOk result (λ w. w ≡ self.now) }
+    {
+        let ring = copied(alloc, &self.ring, self.room as usize)?;
+        let words = copied_words(alloc, &self.words)?;
+        Ok(Window {
+            room: self.room,
+            cap: self.cap,
+            taken: self.taken,
+            origin: self.origin,
+            span: self.span,
             ring,
             words,
         })
@@ -244,6 +261,28 @@ fn memory(alloc: Global, len: usize) -> Result<Vec<u8>, NoMemory>
 {
     match Vec::with_capacity(alloc, len) {
         Ok(octets) => Ok(octets),
+        Err(_) => Err(NoMemory),
+    }
+}
+
+/// The octets of a ring, with memory for so many of them.
+fn copied(alloc: Global, octets: &[u8], len: usize) -> Result<Vec<u8>, NoMemory>
+    ensures octets { IfOk result (λ v. v.items ≡ octets.now) }
+    ensures memory { IfOk result (λ v. len ≤ vec_capacity v) }
+{
+    let mut ring = memory(alloc, len)?;
+    match ring.extend_from_slice(octets) {
+        Ok(()) => Ok(ring),
+        Err(_) => Err(NoMemory),
+    }
+}
+
+/// The bits of a ring.
+fn copied_words(alloc: Global, words: &[u64]) -> Result<Vec<u64>, NoMemory>
+    ensures { IfOk result (λ v. v.items ≡ words.now) }
+{
+    match Vec::from_slice(alloc, words) {
+        Ok(copy) => Ok(copy),
         Err(_) => Err(NoMemory),
     }
 }

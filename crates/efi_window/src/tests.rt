@@ -223,3 +223,33 @@ fn pairs(rt: HostRuntime) {
         assert!(rt; compares(&mut one, &mut other, &pair));
     }
 }
+
+/// Whether a clone keeps what the window does, and neither changes with the other then.
+fn stands_alone(window: &mut Window, clone: &mut Window) -> bool {
+    if !window.holds_same(clone) || window.taken() != clone.taken() {
+        return false;
+    }
+    clone.put(5, b"xyz");
+    if window.holds_same(clone) || !shows(window, Step::Ready(0)) {
+        return false;
+    }
+    window.put(5, b"F");
+    shows(clone, Step::Take(16, b"xyzH")) && shows(window, Step::Take(16, b"F"))
+}
+
+#[test]
+fn cloned(rt: HostRuntime) {
+    let mut window = Window::open(rt.alloc(), 6).expect(&rt, "memory");
+    for step in [
+        Step::Put(0, b"abcde"),
+        Step::Take(5, b"abcde"),
+        Step::Put(8, b"H"),
+        Step::Put(10, b"Jk"),
+    ] {
+        assert!(rt; shows(&mut window, step));
+    }
+    let mut clone = window
+        .try_clone(rt.alloc())
+        .expect(&rt, "memory for a clone");
+    assert!(rt; stands_alone(&mut window, &mut clone));
+}

@@ -17,14 +17,6 @@ pub slots-length : (room : ℕ) (ring words : List ℕ) (place count : ℕ) → 
 slots-length room ring words place zero = refl
 slots-length room ring words place (suc count) = ap suc (slots-length room ring words (suc place) count)
 
-pub slots-within : (room : ℕ) (ring words : List ℕ) (place count i : ℕ) → i < length (slots room ring words place count) → i < count
-slots-within room ring words place count i h = omega (arith, slots-length room ring words place count)
-
--- the slot of an index in the same lists
-pub slot-cong : (index : ℕ) (ring other words bits : List ℕ) → ring ≡ other → words ≡ bits
-    → slot (is_kept words index) (get_or ring index 0) ≡ slot (is_kept bits index) (get_or other index 0)
-slot-cong index ring other words bits r w = ap (λ l. slot (is_kept words index) (get_or l index 0)) r ∙ ap (λ l. slot (is_kept l index) (get_or other index 0)) w
-
 pub slots-at : (room : ℕ) (ring words : List ℕ) (place count i : ℕ) → i < count
     → get_or (slots room ring words place count) i None ≡ slot (is_kept words ((place + i) % room)) (get_or ring ((place + i) % room) 0)
 slots-at room ring words place zero i h = absurd (omega arith)
@@ -35,7 +27,7 @@ slots-at room ring words place (suc count) (suc i) h =
     let e : suc place + i ≡ place + suc i = omega arith in
     slots-at room ring words (suc place) count i (omega arith) ∙ ap (λ n. slot (is_kept words (n % room)) (get_or ring (n % room) 0)) e
 
-slots-past : (room : ℕ) (ring words : List ℕ) (place count i : ℕ) → count ≤ i → get_or (slots room ring words place count) i None ≡ None
+pub slots-past : (room : ℕ) (ring words : List ℕ) (place count i : ℕ) → count ≤ i → get_or (slots room ring words place count) i None ≡ None
 slots-past room ring words place zero i h = refl
 slots-past room ring words place (suc count) zero h = absurd (omega arith)
 slots-past room ring words place (suc count) (suc i) h = slots-past room ring words (suc place) count i (omega arith)

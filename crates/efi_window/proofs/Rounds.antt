@@ -113,6 +113,15 @@ copied place room count first second i ring out rest len some fits f s e h =
     ∙ get_or-take second ring (i - first) 0 (omega arith)
     ∙ ap (λ j. get_or ring j 0) back)))
 
+-- a run up to the ring's end
+pub pieced : (place room count i : ℕ) (ring : List ℕ) → count ≤ room - place % room → i < length (take count (drop (place % room) ring))
+    → get_or (take count (drop (place % room) ring)) i 0 ≡ get_or ring ((place + i) % room) 0
+pieced place room count i ring fits h =
+    let within : i < count = omega (arith, length-take count (drop (place % room) ring)) in
+    get_or-take count (drop (place % room) ring) i 0 within
+    ∙ get_or-drop (place % room) ring i 0
+    ∙ ap (λ j. get_or ring j 0) (sym (near place room i (omega arith)))
+
 -- a ring that holds all of some places is long enough for them, and the other way round
 pub reached : (at room count len : ℕ) → 0 < count → count ≤ room → ((i : ℕ) → i < count → (at + i) % room < len)
     → min (at % room + count) room ≤ len

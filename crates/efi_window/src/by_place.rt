@@ -1,12 +1,12 @@
 //! The window.
-ghost use Rattle.std.specs.Prelude.{◌≡◌, ◌+◌, ◌-◌, ◌^◌, ◌<◌, ◌≤◌, ◌++◌, [], ℕ, min, length, take, drop, IfOk, is_none, true, false, None, get_or, vec_len, ◌*◌};
+ghost use Rattle.std.specs.Prelude.{◌≡◌, ◌+◌, ◌-◌, ◌^◌, ◌<◌, ◌≤◌, ◌++◌, [], ℕ, min, length, take, drop, IfOk, is_none, is_some, not, true, false, None, Some, get_or, vec_len, ◌*◌};
 ghost use Rattle.std.specs.Vec.{vec_capacity};
 ghost use Rattle.efi_window.specs.Kept.{is_kept};
 ghost use Rattle.std.specs.List.{list_all};
 ghost use Rattle.efi_window.specs.Places.{Places, fresh, ready_of, after_put, after_take};
 
 use crate::bits::WORD;
-use crate::ring::{copy, free, octet, put, reach, run};
+use crate::ring::{copy, free, piece, put, reach, run};
 use efi_base::NoMemory;
 use std::alloc::Global;
 use std::marker::Model;
@@ -163,43 +163,39 @@ impl Window {
         ) == left
     }
 
-    /// Whether two windows keep the same octets at the same places, counted from the first one that wasn't taken.
-    pub fn holds_same(&self, other: &Window) -> bool
-        ensures same { result ≡ true → self.now.held ≡ other.now.held }
-        ensures differs { self.now.held ≡ other.now.held → result ≡ true }
-    {
-        let len = self.len();
-        if len != other.len() {
-            return false;
-        }
-        let mut behind = 0;
-        while behind < len {
-            if !is_same(self.slot(behind), other.slot(behind)) {
-                return false;
-            }
-            behind += 1;
-        }
-        true
-    }
-
     /// How many places there are up to the last octet.
-    fn len(&self) -> u64
+    pub(crate) fn len(&self) -> u64
         ensures { result ≡ length self.now.held }
     {
         self.span
     }
 
-    /// The octet so many places behind the first one that wasn't taken.
-    fn slot(&self, behind: u64) -> Option<u8>
-        requires { behind < length self.now.held }
-        ensures { result ≡ get_or self.now.held behind None }
+    /// Where the run of places that are all kept, or all free, ends from one on. These places count from the first one that
+    /// wasn't taken.
+    pub(crate) fn run_end(&self, set: bool, from: u64) -> u64
+        requires { from ≤ length self.now.held }
+        ensures least { from ≤ result }
+        ensures most { result ≤ length self.now.held }
+        ensures alike { (i : ℕ) → from ≤ i → i < result → is_some (get_or self.now.held i None) ≡ set }
+        ensures ends { result < length self.now.held → is_some (get_or self.now.held result None) ≡ not set }
     {
-        octet(
-            &self.ring,
-            &self.words,
-            self.room as usize,
-            self.taken - self.origin + behind,
-        )
+        let place = self.taken - self.origin + from;
+        let left = (self.span - from) as usize;
+        from + run(&self.words, self.room as usize, set, place, left) as u64
+    }
+
+    /// Octets that are kept, from one place up to another at most: fewer where the ring's end comes first. These places
+    /// count from the first one that wasn't taken.
+    pub(crate) fn octets(&self, from: u64, end: u64) -> &[u8]
+        requires order { from < end }
+        requires kept { (i : ℕ) → from ≤ i → i < end → is_some (get_or self.now.held i None) ≡ true }
+        ensures some { 0 < length result.now }
+        ensures most { from + length result.now ≤ end }
+        ensures octets { (i : ℕ) → i < length result.now → get_or self.now.held (from + i) None ≡ Some (get_or result.now i 0) }
+    {
+        let place = self.taken - self.origin + from;
+        let most = (end - from) as usize;
+        piece(&self.ring, self.room as usize, place, most)
     }
 
     /// Empties the window and gives it another length, without taking memory.
@@ -219,14 +215,6 @@ impl Window {
         self.span = 0;
         self.cap = cap;
     }
-}
-
-/// Whether both are the same octet, or none.
-fn is_same(one: Option<u8>, other: Option<u8>) -> bool
-    ensures same { result ≡ true → one ≡ other }
-    ensures differs { one ≡ other → result ≡ true }
-{
-    one == other
 }
 
 /// The place at the ring's front: where nothing is kept, the first one that wasn't taken.

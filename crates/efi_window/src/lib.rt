@@ -10,6 +10,8 @@ mod by_place;
 mod ring;
 // runs of a ring
 mod runs;
+// whether two windows keep the same
+mod same;
 
 pub use by_place::Window;
 

@@ -2,7 +2,7 @@
 //! places are kept, bits of words say.
 ghost use Rattle.std.specs.Prelude.{◌≡◌, ◌+◌, ◌-◌, ◌*◌, ◌%◌, ◌<◌, ◌≤◌, ◌++◌, ℕ, true, false, not, length, get_or, drop, min, vec_len};
 ghost use Rattle.std.specs.Vec.{vec_capacity};
-ghost use Rattle.efi_window.specs.Kept.{is_kept, slot, IsPlaced};
+ghost use Rattle.efi_window.specs.Kept.{is_kept, IsPlaced};
 
 use crate::bits::{mark, run_end};
 use crate::runs::put_run;
@@ -64,17 +64,16 @@ pub fn run(words: &[u64], room: usize, set: bool, place: u64, most: usize) -> us
     room - at + run_end(words, set, 0, most - (room - at))
 }
 
-/// The octet that is kept at a place.
-pub fn octet(ring: &[u8], words: &[u64], room: usize, place: u64) -> Option<u8>
-    requires some { 0 < room }
-    requires words { room ≤ 64 * length words.now }
-    requires used { is_kept words.now (place % room) ≡ true → place % room < length ring.now }
-    ensures { result ≡ slot (is_kept words.now (place % room)) (get_or ring.now (place % room) 0) }
+/// The octets from a place on, up to so many or up to the ring's end.
+pub fn piece(ring: &[u8], room: usize, place: u64, most: usize) -> &[u8]
+    requires some { 0 < most }
+    requires fits { most ≤ room }
+    requires enough { min (place % room + most) room ≤ length ring.now }
+    ensures len { length result.now ≡ min most (room - place % room) }
+    ensures octets { (i : ℕ) → i < length result.now → get_or result.now i 0 ≡ get_or ring.now ((place + i) % room) 0 }
 {
-    if run(words, room, true, place, 1) == 0 {
-        return None;
-    }
-    Some(ring[(place % room as u64) as usize])
+    let at = (place % room as u64) as usize;
+    &ring[at..at + most.min(room - at)]
 }
 
 /// Writes two runs to the front of a room, one behind the other.

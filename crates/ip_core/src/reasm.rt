@@ -22,7 +22,7 @@ use wire_ip4::Ip;
 /// How many pools may be open.
 pub const POOLS: usize = 16;
 
-/// Up to 16 pools, in the order in which they opened. Only `new` takes memory.
+/// Up to 16 pools, in the order in which they opened. Only `new` and `try_clone` take memory.
 #[derive(Drop)]
 pub struct Reasm {
     pools: Vec<Slot>,
@@ -54,7 +54,18 @@ impl Reasm {
         let Ok(pools) = Vec::with_capacity(alloc, POOLS) else {
             return Err(NoMemory);
         };
-        let free = free_slots(alloc)?;
+        let free = free_slots(alloc, POOLS)?;
+        let room = zeros(alloc)?;
+        Ok(Reasm { pools, free, room })
+    }
+
+    /// A reassembly in which the same pools are open, in the same order, and hold the same. It takes memory of its own for
+    /// all 16 pools, as `new` does.
+    pub fn try_clone(&self, alloc: Global) -> Result<Reasm, NoMemory>
+        ensures { IfOk result (λ r. r ≡ self.now) }
+    {
+        let pools = clones(alloc, &self.pools)?;
+        let free = free_slots(alloc, POOLS - pools.len())?;
         let room = zeros(alloc)?;
         Ok(Reasm { pools, free, room })
     }
@@ -119,16 +130,33 @@ fn lent<'a>(p: &Ip, payload: &'a [u8]) -> Whole<'a>
     }
 }
 
-/// The slots, of which each is free.
-fn free_slots(alloc: Global) -> Result<Vec<Slot>, NoMemory>
-    ensures count { IfOk result (λ slots. vec_len slots ≡ most_pools) }
+/// So many free slots, in a list with memory for all 16.
+fn free_slots(alloc: Global, count: usize) -> Result<Vec<Slot>, NoMemory>
+    ensures count { IfOk result (λ slots. vec_len slots ≡ count) }
     ensures memory { IfOk result (λ slots. most_pools ≤ vec_capacity slots) }
 {
     let Ok(mut slots) = Vec::with_capacity(alloc, POOLS) else {
         return Err(NoMemory);
     };
-    for _ in 0..POOLS {
+    for _ in 0..count {
         let slot = Slot::new(alloc)?;
+        if let Err(_) = slots.push(slot) {
+            return Err(NoMemory);
+        }
+    }
+    Ok(slots)
+}
+
+/// The same pools in slots of their own, in a list with memory for all 16.
+fn clones(alloc: Global, pools: &[Slot]) -> Result<Vec<Slot>, NoMemory>
+    ensures items { IfOk result (λ slots. slots.items ≡ pools.now) }
+    ensures memory { IfOk result (λ slots. most_pools ≤ vec_capacity slots) }
+{
+    let Ok(mut slots) = Vec::with_capacity(alloc, POOLS) else {
+        return Err(NoMemory);
+    };
+    for pool in pools {
+        let slot = pool.try_clone(alloc)?;
         if let Err(_) = slots.push(slot) {
             return Err(NoMemory);
         }

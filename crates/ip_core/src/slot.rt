@@ -50,7 +50,7 @@ impl Model for Slot {
 }
 
 impl Slot {
-    /// A slot of no pool. Only this call takes memory.
+    /// A slot of no pool. Only this call and `try_clone` take memory.
     pub fn new(alloc: Global) -> Result<Slot, NoMemory>
         ensures opened { IfOk result (λ s. s.opened ≡ 0) }
         ensures kept { IfOk result (λ s. s.kept ≡ bytes_kept.nothing) }
@@ -65,6 +65,19 @@ impl Slot {
             },
             opened: 0,
             end: None,
+            window,
+        })
+    }
+
+    /// A slot of the same pool that holds the same, in memory of its own.
+    pub fn try_clone(&self, alloc: Global) -> Result<Slot, NoMemory>
+        ensures { IfOk result (λ s. s ≡ self.now) }
+    {
+        let window = self.window.try_clone(alloc)?;
+        Ok(Slot {
+            key: self.key,
+            opened: self.opened,
+            end: self.end,
             window,
         })
     }

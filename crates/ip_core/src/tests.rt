@@ -159,6 +159,32 @@ fn compares_reassemblies(rt: HostRuntime) {
     }
 }
 
+#[test]
+fn clone_goes_on_alone(rt: HostRuntime) {
+    let mut first = Reasm::new(rt.alloc()).expect(&rt, "memory for 16 pools");
+    let begun: [Row; 3] = [
+        (5, 1, 16, false, b"end", None),
+        (6, 2, 0, true, b"22222222", None),
+        (7, 1, 8, true, b"BBBBBBBB", None),
+    ];
+    hears(&rt, &mut first, &begun);
+    let clone = first.try_clone(rt.alloc());
+    let mut clone = clone.expect(&rt, "memory for 16 pools more");
+    let rest: [Row; 2] = [
+        (8, 1, 0, true, b"AAAAAAAA", Some(b"AAAAAAAABBBBBBBBend")),
+        (8, 2, 8, false, b"two", Some(b"22222222two")),
+    ];
+    hears(&rt, &mut clone, &rest);
+    for id in [1, 2] {
+        let fragment = packet(id, 8, true, b"");
+        assert!(rt; first.is_open(&fragment), "{id} where it isn't whole");
+        assert!(rt; !clone.is_open(&fragment), "{id} where it is whole");
+    }
+    // the octets at the front are those that the first one hears
+    let own: Row = (9, 1, 0, true, b"aaaaaaaa", Some(b"aaaaaaaaBBBBBBBBend"));
+    hears(&rt, &mut first, &[own]);
+}
+
 /// A route by its numbers.
 fn way(dest: u32, mask: u32, gate: u32) -> Route {
     Route {

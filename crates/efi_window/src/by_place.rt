@@ -50,7 +50,7 @@ impl Window {
     pub fn open(alloc: Global, cap: u32) -> Result<Window, NoMemory>
         ensures { IfOk result (λ w. w ≡ fresh cap cap) }
     {
-        let ring = memory(alloc, cap as usize)?;
+        let ring = Vec::with_capacity(alloc, cap as usize)?;
         let words = free_places(alloc, cap as usize)?;
         Ok(Window {
             room: cap,
@@ -68,7 +68,7 @@ impl Window {
         ensures { IfOk result (λ w. w ≡ self.now) }
     {
         let ring = copied(alloc, &self.ring, self.room as usize)?;
-        let words = copied_words(alloc, &self.words)?;
+        let words = Vec::from_slice(alloc, &self.words)?;
         Ok(Window {
             room: self.room,
             cap: self.cap,
@@ -170,8 +170,7 @@ impl Window {
         self.span
     }
 
-    /// Where the run of places that are all kept, or all free, ends from one on. These places count from the first one that
-    /// wasn't taken.
+    /// Where the run of places that are all kept, or all free, ends from one on: they count from the first one not taken.
     pub(crate) fn run_end(&self, set: bool, from: u64) -> u64
         requires { from ≤ length self.now.held }
         ensures least { from ≤ result }
@@ -184,8 +183,8 @@ impl Window {
         from + run(&self.words, self.room as usize, set, place, left) as u64
     }
 
-    /// Octets that are kept, from one place up to another at most: fewer where the ring's end comes first. These places
-    /// count from the first one that wasn't taken.
+    /// Octets that are kept, from one place up to another at most: fewer where the ring's end comes first. Places count here
+    /// too from the first one not taken.
     pub(crate) fn octets(&self, from: u64, end: u64) -> &[u8]
         requires order { from < end }
         requires kept { (i : ℕ) → from ≤ i → i < end → is_some (get_or self.now.held i None) ≡ true }
@@ -196,6 +195,20 @@ impl Window {
         let place = self.taken - self.origin + from;
         let most = (end - from) as usize;
         piece(&self.ring, self.room as usize, place, most)
+    }
+
+    /// Whether two windows have the same in all of their memory, which is quickly seen. Windows that keep the same may differ
+    /// where nothing is kept, but those of which nothing was taken since they were cleared don't.
+    pub(crate) fn is_twin(&self, other: &Window) -> bool
+        ensures { result ≡ true → self.now.held ≡ other.now.held }
+    {
+        if self.room != other.room || self.span != other.span {
+            return false;
+        }
+        if self.taken - self.origin != other.taken - other.origin {
+            return false;
+        }
+        self.words == other.words && self.ring == other.ring
     }
 
     /// Empties the window and gives it another length, without taking memory.
@@ -210,6 +223,7 @@ impl Window {
             self.taken - self.origin,
             self.span as usize,
         );
+        self.ring.clear();
         self.taken = 0;
         self.origin = 0;
         self.span = 0;
@@ -242,45 +256,20 @@ fn within(bytes: &[u8], skipped: u64, most: u64) -> &[u8]
     &rest[..most as usize]
 }
 
-/// Memory for a ring of so many octets, of which none is there yet.
-fn memory(alloc: Global, len: usize) -> Result<Vec<u8>, NoMemory>
-    ensures none { IfOk result (λ v. v.items ≡ []) }
-    ensures memory { IfOk result (λ v. len ≤ vec_capacity v) }
-{
-    match Vec::with_capacity(alloc, len) {
-        Ok(octets) => Ok(octets),
-        Err(_) => Err(NoMemory),
-    }
-}
-
 /// The octets of a ring, with memory for so many of them.
 fn copied(alloc: Global, octets: &[u8], len: usize) -> Result<Vec<u8>, NoMemory>
     ensures octets { IfOk result (λ v. v.items ≡ octets.now) }
     ensures memory { IfOk result (λ v. len ≤ vec_capacity v) }
 {
-    let mut ring = memory(alloc, len)?;
-    match ring.extend_from_slice(octets) {
-        Ok(()) => Ok(ring),
-        Err(_) => Err(NoMemory),
-    }
-}
-
-/// The bits of a ring.
-fn copied_words(alloc: Global, words: &[u64]) -> Result<Vec<u64>, NoMemory>
-    ensures { IfOk result (λ v. v.items ≡ words.now) }
-{
-    match Vec::from_slice(alloc, words) {
-        Ok(copy) => Ok(copy),
-        Err(_) => Err(NoMemory),
-    }
+    let mut ring = Vec::with_capacity(alloc, len)?;
+    ring.extend_from_slice(octets)?;
+    Ok(ring)
 }
 
 /// Bits for so many places, of which none is kept.
 fn free_places(alloc: Global, len: usize) -> Result<Vec<u64>, NoMemory>
     ensures { IfOk result (λ v. (len ≤ 64 * vec_len v) × ((i : ℕ) → is_kept v.items i ≡ false)) }
 {
-    match vec![in alloc; 0; len.div_ceil(WORD)] {
-        Ok(words) => Ok(words),
-        Err(_) => Err(NoMemory),
-    }
+    let words = vec![in alloc; 0; len.div_ceil(WORD)]?;
+    Ok(words)
 }

@@ -1,4 +1,5 @@
-//! Whether two windows keep the same: their runs are compared, in turn one of kept places and one of free places.
+//! Whether two windows keep the same. Where their memory isn't the same, their runs are compared, in turn one of kept places
+//! and one of free places.
 ghost use Rattle.std.specs.Prelude.{◌≡◌, ◌+◌, ◌<◌, ◌≤◌, ℕ, true, None, length, get_or, is_some, IfSome, IsSome};
 
 use crate::by_place::Window;
@@ -12,6 +13,9 @@ impl Window {
         let len = self.len();
         if len != other.len() {
             return false;
+        }
+        if self.is_twin(other) {
+            return true;
         }
         let mut behind = 0;
         while behind < len {

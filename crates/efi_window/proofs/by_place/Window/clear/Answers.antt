@@ -20,8 +20,8 @@ invariant_of-self c =
     ] in
     record {
       cap = rw (← c.self.view_is) at c.requires.most;
-      ring = c.self.invariant.ring;
-      memory = c.self.invariant.memory;
+      ring = omega (arith, ap length c.clear.ensures.items);
+      memory = omega (arith, c.clear.ensures.capacity, c.self.invariant.memory);
       words = enough c.self.inside.room _ _ (ap length bits ∙ c.free.ensures.len ∙ old) c.self.invariant.words;
       span = omega arith;
       taken = omega arith;

@@ -29,8 +29,8 @@ abbrev pub is_same : Route → Route → Bool
 is_same r s = r.dest.0 == s.dest.0 && (r.mask == s.mask && r.gate.0 == s.gate.0)
 
 -- where the same route is in the list
-abbrev pub place_of : Route → List Route → Option ℕ
-place_of r routes = position (is_same r) routes
+abbrev pub route_place : Route → List Route → Option ℕ
+route_place r routes = position (is_same r) routes
 
 -- how many routes there may be
 abbrev pub limit : ℕ
@@ -39,12 +39,12 @@ limit = 64
 -- why a route isn't added
 abbrev pub add_refusal : List Route → Route → Option Refuse
 add_refusal routes r =
-    first_of (refuse_if (is_some (place_of r routes)) AccessDenied)
+    first_of (refuse_if (is_some (route_place r routes)) AccessDenied)
     (first_of (refuse_if (not (is_good r)) (BadConfig field.Mask)) (refuse_if (length routes == limit) NotReady))
 
 -- why a route isn't removed
 abbrev pub remove_refusal : List Route → Route → Option Refuse
-remove_refusal routes r = refuse_if (not (is_some (place_of r routes))) NotFound
+remove_refusal routes r = refuse_if (not (is_some (route_place r routes))) NotFound
 
 -- the routes without this one
 abbrev pub without_at : Option ℕ → List Route → List Route
@@ -52,7 +52,7 @@ without_at None routes = routes
 without_at (Some i) routes = remove routes i
 
 abbrev pub without : Route → List Route → List Route
-without r routes = without_at (place_of r routes) routes
+without r routes = without_at (route_place r routes) routes
 
 -- the address lies in the route's network
 abbrev pub matches : Route → ℕ → Bool

@@ -1,7 +1,7 @@
 //! Datagrams from fragments (RFC 791, section 3.2): pools that hold the fragments of one datagram each, until it is
 //! whole or too old. Nothing here reads a header.
 ghost use Rattle.std.specs.Prelude.{⊤, true, List, ◌≡◌, ◌+◌, ◌≤◌, ◌<◌, [], length, take, remove, slice_set, slice_index_or, IfOk, IfSome, option_map, is_some, vec_len, if◌then◌else◌};
-ghost use Rattle.std.specs.List.{position, list_any};
+ghost use Rattle.std.specs.List.{position};
 ghost use Rattle.std.specs.Vec.{vec_capacity};
 ghost use Rattle.std.specs.Borrow.{sem, follows_so};
 ghost use Rattle.wire_ip4.specs.Packet.{Packet};
@@ -51,9 +51,7 @@ impl Reasm {
     pub fn new(alloc: Global) -> Result<Reasm, NoMemory>
         ensures { IfOk result (λ r. r ≡ []) }
     {
-        let Ok(pools) = Vec::with_capacity(alloc, POOLS) else {
-            return Err(NoMemory);
-        };
+        let pools = Vec::with_capacity(alloc, POOLS)?;
         let free = free_slots(alloc, POOLS)?;
         let room = zeros(alloc)?;
         Ok(Reasm { pools, free, room })
@@ -98,11 +96,11 @@ impl Reasm {
         are_same(&self.pools, &other.pools)
     }
 
-    /// Whether the pool of a packet's datagram was open at the last tick or packet.
-    pub fn is_open(&self, p: &Ip) -> bool
-        ensures { result ≡ list_any (is_of (key_of (packet_seen p.now))) self.now }
+    /// How many pools were open at the last tick or packet.
+    pub fn open_count(&self) -> usize
+        ensures { result ≡ length self.now }
     {
-        has_key(&self.pools, key_of(p))
+        self.pools.len()
     }
 
     /// Closes the pools that are over.
@@ -135,14 +133,10 @@ fn free_slots(alloc: Global, count: usize) -> Result<Vec<Slot>, NoMemory>
     ensures count { IfOk result (λ slots. vec_len slots ≡ count) }
     ensures memory { IfOk result (λ slots. most_pools ≤ vec_capacity slots) }
 {
-    let Ok(mut slots) = Vec::with_capacity(alloc, POOLS) else {
-        return Err(NoMemory);
-    };
+    let mut slots = Vec::with_capacity(alloc, POOLS)?;
     for _ in 0..count {
         let slot = Slot::new(alloc)?;
-        if let Err(_) = slots.push(slot) {
-            return Err(NoMemory);
-        }
+        slots.push(slot)?;
     }
     Ok(slots)
 }
@@ -152,14 +146,10 @@ fn clones(alloc: Global, pools: &[Slot]) -> Result<Vec<Slot>, NoMemory>
     ensures items { IfOk result (λ slots. slots.items ≡ pools.now) }
     ensures memory { IfOk result (λ slots. most_pools ≤ vec_capacity slots) }
 {
-    let Ok(mut slots) = Vec::with_capacity(alloc, POOLS) else {
-        return Err(NoMemory);
-    };
+    let mut slots = Vec::with_capacity(alloc, POOLS)?;
     for pool in pools {
         let slot = pool.try_clone(alloc)?;
-        if let Err(_) = slots.push(slot) {
-            return Err(NoMemory);
-        }
+        slots.push(slot)?;
     }
     Ok(slots)
 }
@@ -169,9 +159,7 @@ fn zeros(alloc: Global) -> Result<Vec<u8>, NoMemory>
     ensures { IfOk result (λ room. length room.items ≡ most_bytes) }
 {
     let mut room = Vec::new(alloc);
-    let Ok(()) = room.resize(MOST_OCTETS as usize, 0) else {
-        return Err(NoMemory);
-    };
+    room.resize(MOST_OCTETS as usize, 0)?;
     Ok(room)
 }
 
@@ -211,13 +199,6 @@ fn find(pools: &[Slot], key: FragmentKey) -> Option<usize>
     ensures { result ≡ position (is_of (key_seen key)) pools.now }
 {
     pools.iter().position(|slot| slot.is_of(key))
-}
-
-/// Whether a pool is the key's.
-fn has_key(pools: &[Slot], key: FragmentKey) -> bool
-    ensures { result ≡ list_any (is_of (key_seen key)) pools.now }
-{
-    pools.iter().any(|slot| slot.is_of(key))
 }
 
 /// Whether these are the same pools in the same order.

@@ -2,7 +2,7 @@
 //! reached.
 ghost use Rattle.std.specs.Prelude.{◌≡◌, [], ◌∷◌, ◌++◌, OnOk, OnErr, option_map};
 ghost use Rattle.efi_base.specs.Refusals.{RefusesExactly};
-ghost use Rattle.ip_core.specs.Routing.{is_mask, is_good, is_same, place_of, add_refusal, remove_refusal, without, matches, is_longer, best_of, next_hop, FindsBest};
+ghost use Rattle.ip_core.specs.Routing.{is_mask, is_good, is_same, route_place, add_refusal, remove_refusal, without, matches, is_longer, best_of, next_hop, FindsBest};
 
 use arrayvec::ArrayVec;
 use efi_base::{Field, Ip4, Refuse};
@@ -109,7 +109,7 @@ impl Routes {
 
 /// Where the same route is.
 fn find(routes: &[Route], r: Route) -> Option<usize>
-    ensures { result ≡ place_of r routes.now }
+    ensures { result ≡ route_place r routes.now }
 {
     routes.iter().position(|s| is_same(r, *s))
 }

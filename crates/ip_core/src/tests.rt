@@ -98,6 +98,7 @@ fn open_pools(rt: &impl Abort, reasm: &mut Reasm, count: u16) {
 fn sixteen_pools(rt: HostRuntime) {
     let mut reasm = Reasm::new(rt.alloc()).expect(&rt, "memory for 16 pools");
     open_pools(&rt, &mut reasm, 17);
+    assert_eq!(rt; reasm.open_count(), 16);
     let rows: [Row; 2] = [
         (0, 16, 8, false, b"none", None),
         (0, 0, 16, false, b"its own pool", None),
@@ -114,16 +115,15 @@ fn sixteen_pools(rt: HostRuntime) {
     hears(&rt, &mut reasm, &rows);
 }
 
-/// What one reassembly hears, and another; whether both hold the same then, and whether the other has a pool of datagram 1.
-type Pair<'a> = (&'a [Row<'a>], &'a [Row<'a>], bool, bool);
+/// What one reassembly hears, and another, and whether both hold the same then.
+type Pair<'a> = (&'a [Row<'a>], &'a [Row<'a>], bool);
 
 /// Whether both are as the pair says after what they heard, from both sides.
 fn compares(rt: &impl Abort, one: &mut Reasm, other: &mut Reasm, pair: &Pair) -> bool {
-    let (ones, others, same, has_pool) = pair;
+    let (ones, others, same) = pair;
     hears(rt, one, ones);
     hears(rt, other, others);
-    let both = one.is_same(other) == *same && other.is_same(one) == *same;
-    both && other.is_open(&packet(1, 8, true, b"")) == *has_pool
+    one.is_same(other) == *same && other.is_same(one) == *same
 }
 
 #[test]
@@ -132,25 +132,15 @@ fn compares_reassemblies(rt: HostRuntime) {
     let third: Row = (0, 1, 16, true, b"qrstuvwx", None);
     let second: Row = (0, 2, 0, true, b"abcdefgh", None);
     let pairs: [Pair; 8] = [
-        (&[first, third], &[third, first], true, true),
-        (
-            &[],
-            &[(0, 1, 0, false, b"whole", Some(b"whole"))],
-            true,
-            false,
-        ),
-        (&[first], &[], false, false),
+        (&[first, third], &[third, first], true),
+        (&[], &[(0, 1, 0, false, b"whole", Some(b"whole"))], true),
+        (&[first], &[], false),
         // the tick, an octet, the end, the order, the key
-        (&[first], &[(1, 1, 0, true, b"abcdefgh", None)], false, true),
-        (&[first], &[(0, 1, 0, true, b"abcdefgX", None)], false, true),
-        (
-            &[third],
-            &[(0, 1, 16, false, b"qrstuvwx", None)],
-            false,
-            true,
-        ),
-        (&[first, second], &[second, first], false, true),
-        (&[first], &[second], false, false),
+        (&[first], &[(1, 1, 0, true, b"abcdefgh", None)], false),
+        (&[first], &[(0, 1, 0, true, b"abcdefgX", None)], false),
+        (&[third], &[(0, 1, 16, false, b"qrstuvwx", None)], false),
+        (&[first, second], &[second, first], false),
+        (&[first], &[second], false),
     ];
     for pair in pairs {
         let mut one = Reasm::new(rt.alloc()).expect(&rt, "memory for 16 pools");
@@ -168,21 +158,21 @@ fn clone_goes_on_alone(rt: HostRuntime) {
         (7, 1, 8, true, b"BBBBBBBB", None),
     ];
     hears(&rt, &mut first, &begun);
-    let clone = first.try_clone(rt.alloc());
-    let mut clone = clone.expect(&rt, "memory for 16 pools more");
+    let mut clone = first
+        .try_clone(rt.alloc())
+        .expect(&rt, "memory for 16 pools more");
+    assert!(rt; clone.is_same(&first));
     let rest: [Row; 2] = [
         (8, 1, 0, true, b"AAAAAAAA", Some(b"AAAAAAAABBBBBBBBend")),
         (8, 2, 8, false, b"two", Some(b"22222222two")),
     ];
     hears(&rt, &mut clone, &rest);
-    for id in [1, 2] {
-        let fragment = packet(id, 8, true, b"");
-        assert!(rt; first.is_open(&fragment), "{id} where it isn't whole");
-        assert!(rt; !clone.is_open(&fragment), "{id} where it is whole");
-    }
-    // the octets at the front are those that the first one hears
-    let own: Row = (9, 1, 0, true, b"aaaaaaaa", Some(b"aaaaaaaaBBBBBBBBend"));
-    hears(&rt, &mut first, &[own]);
+    // in the first one both datagrams are open, and the octets at the front are those that it hears itself
+    let own: [Row; 2] = [
+        (9, 1, 0, true, b"aaaaaaaa", Some(b"aaaaaaaaBBBBBBBBend")),
+        (9, 2, 8, false, b"too", Some(b"22222222too")),
+    ];
+    hears(&rt, &mut first, &own);
 }
 
 /// A route by its numbers.

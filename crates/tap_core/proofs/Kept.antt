@@ -1,23 +1,21 @@
 -- What kept fragments leave open to a station is what all records leave open to it.
-use Rattle.std.proofs.Common.{◌≡◌, ℕ, ◌+◌, ◌-◌, ◌<◌, ◌≤◌, max, Bool, true, false, ◌&&◌, List, [], ◌∷◌, ◌++◌, filter, fold, take, get_or, length, All, Option, Some, None, is_some, refl, sym, ap, subst, ◌∙◌, inl, inr, arith, if◌then◌else◌}
+use Rattle.std.proofs.Common.{◌≡◌, ℕ, ◌+◌, ◌-◌, ◌<◌, ◌≤◌, max, Bool, true, false, ◌&&◌, List, [], ◌∷◌, ◌++◌, filter, fold, take, get_or, length, All, Option, Some, None, is_some, refl, sym, ap, ◌∙◌, inl, inr, arith, if◌then◌else◌}
 use Rattle.std.specs.Option.{option_map_or}
-use Rattle.std.proofs.Math.Nat.{max-eq_left, max-eq_right, le-max_left, le-max_right}
+use Rattle.std.proofs.Math.Nat.{max-eq_left, max-eq_right}
 use Rattle.std.proofs.lemmas.Bool.{cases_lt, lt-ltb, le-ltb, ltb-true}
 use Rattle.std.proofs.lemmas.List.{take_more}
-use Rattle.std.proofs.lemmas.List.Elements.{All-head, All-tail, All-cons, All-append, All-filter, All-nil}
+use Rattle.std.proofs.lemmas.List.Elements.{All-head, All-tail, All-cons, All-filter}
 use Rattle.std.proofs.lemmas.List.Sums.{fold-append}
 use Rattle.efi_base.specs.declared.plain.Record.{Record}
 use Rattle.wire_ip4.specs.Packet.{Packet, packet_of, is_fragment}
 use Rattle.ip_core.specs.Pools.{Key, Pool, key_of, is_of, is_dropped, lasts, lifetime, open_at, kept_with, with_kept, without, after_fragment}
 use Rattle.ip_core.specs.Bytes.{Bytes, bytes_kept}
 use Rattle.ip_core.specs.Datagrams.{after_event}
-use Rattle.ip_core.specs.Frames.{event_at, packet_in_frame}
+use Rattle.ip_core.specs.Frames.{event_at, event_of, packet_in_frame}
 use Rattle.tap_core.specs.declared.fragments.Fragment.{Fragment}
 use Rattle.tap_core.specs.declared.fragments.Fragments.{Fragments}
-use Rattle.tap_core.specs.Early.{holds_fragment, after_kept, latest_of, pools_left, HasFragments}
+use Rattle.tap_core.specs.Early.{holds_fragment, after_kept, pools_behind, IsKept, OpenedBy}
 use Rattle.tap_core.specs.Frames.{is_sent, heard_packet}
-use Rattle.tap_core.specs.Hearing.{event_heard}
-use Rattle.tap_core.specs.Openings.{Opening}
 
 and-right : (x y : Bool) → (y ≡ true → x ≡ true) → y ≡ (x && y)
 and-right true y h = refl
@@ -61,109 +59,71 @@ open-zero (p ∷ pools) =
     let there : lasts 0 p ≡ true = lt-ltb (0 - p.opened) lifetime (omega arith) in
     rw there (ap (λ l. p ∷ l) (open-zero pools))
 
--- a pool that opened no later than a tick
-abbrev opened-by : ℕ → Pool Bytes → Type 0
-opened-by m p = p.opened ≤ m
-
 -- once such pools' time is over, none is open
-fades : (m t : ℕ) (pools : List (Pool Bytes)) → lifetime ≤ t - m → All (opened-by m) pools → open_at t pools ≡ []
+pub fades : (m t : ℕ) (pools : List (Pool Bytes)) → lifetime ≤ t - m → All (OpenedBy m) pools → open_at t pools ≡ []
 fades m t [] h o = refl
 fades m t (p ∷ pools) h o =
-    let old : lasts t p ≡ false = le-ltb (t - p.opened) lifetime (omega (arith, h, All-head (opened-by m) p pools o)) in
-    rw old (fades m t pools h (All-tail (opened-by m) p pools o))
+    let old : lasts t p ≡ false = le-ltb (t - p.opened) lifetime (omega (arith, h, All-head (OpenedBy m) p pools o)) in
+    rw old (fades m t pools h (All-tail (OpenedBy m) p pools o))
 
 if-both : {A : Type 0} (P : A → Type 0) (b : Bool) (x y : A) → P x → P y → P (if b then x else y)
 if-both P true x y px py = px
 if-both P false x y px py = py
 
-without-by : (m : ℕ) (key : Key) (pools : List (Pool Bytes)) → All (opened-by m) pools → All (opened-by m) (without key pools)
+without-by : (m : ℕ) (key : Key) (pools : List (Pool Bytes)) → All (OpenedBy m) pools → All (OpenedBy m) (without key pools)
 without-by m key [] o = o
 without-by m key (p ∷ pools) o =
-    let rest = All-tail (opened-by m) p pools o in
-    if-both (All (opened-by m)) (is_of key p) pools (p ∷ without key pools) rest
-    (All-cons (opened-by m) p (without key pools) (All-head (opened-by m) p pools o) (without-by m key pools rest))
+    let rest = All-tail (OpenedBy m) p pools o in
+    if-both (All (OpenedBy m)) (is_of key p) pools (p ∷ without key pools) rest
+    (All-cons (OpenedBy m) p (without key pools) (All-head (OpenedBy m) p pools o) (without-by m key pools rest))
 
 abbrev pool-with : Key → ℕ → Bytes → Pool Bytes
 pool-with key opened kept = record { key = key; opened = opened; kept = kept }
 
-with-by : (m now : ℕ) (key : Key) (kept : Bytes) (pools : List (Pool Bytes)) → now ≤ m → All (opened-by m) pools → All (opened-by m) (with_kept key now kept pools)
-with-by m now key kept [] h o = All-cons (opened-by m) (pool-with key now kept) [] h o
+with-by : (m now : ℕ) (key : Key) (kept : Bytes) (pools : List (Pool Bytes)) → now ≤ m → All (OpenedBy m) pools → All (OpenedBy m) (with_kept key now kept pools)
+with-by m now key kept [] h o = All-cons (OpenedBy m) (pool-with key now kept) [] h o
 with-by m now key kept (p ∷ pools) h o =
-    let rest = All-tail (opened-by m) p pools o in
-    let here = All-head (opened-by m) p pools o in
-    if-both (All (opened-by m)) (is_of key p) (pool-with p.key p.opened kept ∷ pools) (p ∷ with_kept key now kept pools)
-    (All-cons (opened-by m) (pool-with p.key p.opened kept) pools here rest)
-    (All-cons (opened-by m) p (with_kept key now kept pools) here (with-by m now key kept pools h rest))
+    let rest = All-tail (OpenedBy m) p pools o in
+    let here = All-head (OpenedBy m) p pools o in
+    if-both (All (OpenedBy m)) (is_of key p) (pool-with p.key p.opened kept ∷ pools) (p ∷ with_kept key now kept pools)
+    (All-cons (OpenedBy m) (pool-with p.key p.opened kept) pools here rest)
+    (All-cons (OpenedBy m) p (with_kept key now kept pools) here (with-by m now key kept pools h rest))
 
-fragment-by : (m now : ℕ) (pools : List (Pool Bytes)) (f : Packet) → now ≤ m → All (opened-by m) pools → All (opened-by m) (after_fragment bytes_kept now pools f)
+fragment-by : (m now : ℕ) (pools : List (Pool Bytes)) (f : Packet) → now ≤ m → All (OpenedBy m) pools → All (OpenedBy m) (after_fragment bytes_kept now pools f)
 fragment-by m now pools f h o =
     let kept = kept_with bytes_kept f pools in
-    if-both (All (opened-by m)) (is_dropped f pools) pools _ o
-    (if-both (All (opened-by m)) (is_some (bytes_kept.whole kept)) (without (key_of f) pools) (with_kept (key_of f) now kept pools)
+    if-both (All (OpenedBy m)) (is_dropped f pools) pools _ o
+    (if-both (All (OpenedBy m)) (is_some (bytes_kept.whole kept)) (without (key_of f) pools) (with_kept (key_of f) now kept pools)
     (without-by m (key_of f) pools o) (with-by m now (key_of f) kept pools h o))
 
 -- no pool opens later than its event
-event-by : (m now : ℕ) (pools : List (Pool Bytes)) (p : Option Packet) → now ≤ m → All (opened-by m) pools → All (opened-by m) (after_event bytes_kept pools (event_at now p))
-event-by m now pools None h o = All-filter (lasts now) (opened-by m) pools o
+event-by : (m now : ℕ) (pools : List (Pool Bytes)) (p : Option Packet) → now ≤ m → All (OpenedBy m) pools → All (OpenedBy m) (after_event bytes_kept pools (event_at now p))
+event-by m now pools None h o = All-filter (lasts now) (OpenedBy m) pools o
 event-by m now pools (Some p) h o =
-    let lasting = All-filter (lasts now) (opened-by m) pools o in
-    if-both (All (opened-by m)) (is_fragment p) (after_fragment bytes_kept now (open_at now pools) p) (open_at now pools)
+    let lasting = All-filter (lasts now) (OpenedBy m) pools o in
+    if-both (All (OpenedBy m)) (is_fragment p) (after_fragment bytes_kept now (open_at now pools) p) (open_at now pools)
     (fragment-by m now (open_at now pools) p h lasting) lasting
 
-abbrev kept-by : ℕ → Fragment → Type 0
-kept-by m k = k.record.tick.0 ≤ m
+-- no pool opens later than a fragment
+pub kept-opened : (o : List ℕ → Option Packet) (m : ℕ) (pools : List (Pool Bytes)) (k : Fragment) → IsKept m k → All (OpenedBy m) pools
+    → All (OpenedBy m) (after_kept o pools k)
+kept-opened o m pools k by opened =
+    event-by m k.record.tick.0 (open_at k.passed.0 pools) (o k.record.frame) by.by (All-filter (lasts k.passed.0) (OpenedBy m) pools opened)
 
-folded-by : (o : List ℕ → Option Packet) (m : ℕ) (pools : List (Pool Bytes)) (kept : List Fragment) → All (opened-by m) pools → All (kept-by m) kept
-    → All (opened-by m) (fold (after_kept o) pools kept)
+pub folded-by : (o : List ℕ → Option Packet) (m : ℕ) (pools : List (Pool Bytes)) (kept : List Fragment) → All (OpenedBy m) pools → All (IsKept m) kept
+    → All (OpenedBy m) (fold (after_kept o) pools kept)
 folded-by o m pools [] opened by = opened
 folded-by o m pools (k ∷ kept) opened by =
     folded-by o m (after_kept o pools k) kept
-    (event-by m k.record.tick.0 (open_at k.passed.0 pools) (o k.record.frame) (All-head (kept-by m) k kept by)
-    (All-filter (lasts k.passed.0) (opened-by m) pools opened))
-    (All-tail (kept-by m) k kept by)
-
-abbrev later-of : ℕ → Fragment → ℕ
-later-of m k = max m k.record.tick.0
-
-latest-grows : (m : ℕ) (kept : List Fragment) → m ≤ fold later-of m kept
-latest-grows m [] = omega arith
-latest-grows m (k ∷ kept) = omega (arith, le-max_left m k.record.tick.0, latest-grows (later-of m k) kept)
-
-latest-from : (m : ℕ) (kept : List Fragment) → All (kept-by (fold later-of m kept)) kept
-latest-from m [] = All-nil (kept-by m)
-latest-from m (k ∷ kept) =
-    All-cons (kept-by (fold later-of (later-of m k) kept)) k kept
-    (omega (arith, le-max_right m k.record.tick.0, latest-grows (later-of m k) kept))
-    (latest-from (later-of m k) kept)
-
--- no kept fragment is later than the latest one
-latest-all : (f : Fragments) → HasFragments f → All (kept-by f.latest.0) f.kept.items
-latest-all f h = subst (λ m. All (kept-by m) f.kept.items) (sym h.latest_is) (latest-from 0 f.kept.items)
+    (kept-opened o m pools k (All-head (IsKept m) k kept by) opened)
+    (All-tail (IsKept m) k kept by)
 
 -- once the time of the latest fragment's pool is over, none is open
-pub left-fades : (o : List ℕ → Option Packet) (f : Fragments) (now : ℕ) → lifetime ≤ now - f.latest.0 → HasFragments f → open_at now (pools_left o f) ≡ []
-left-fades o f now h fragments =
-    fades f.latest.0 now (pools_left o f) h
-    (All-filter (lasts f.passed.0) (opened-by f.latest.0) (fold (after_kept o) [] f.kept.items)
-    (folded-by o f.latest.0 [] f.kept.items (All-nil (opened-by f.latest.0)) (latest-all f fragments)))
-
-abbrev is-holding : Fragment → Type 0
-is-holding k = holds_fragment k.record.frame ≡ true
-
--- with one fragment more
-pub fragments-next : (f g : Fragments) (k : Fragment) → HasFragments f → holds_fragment k.record.frame ≡ true → g.kept.items ≡ f.kept.items ++ k ∷ []
-    → g.latest.0 ≡ max f.latest.0 k.record.tick.0 → HasFragments g
-fragments-next f g k h here items latest = record {
-  holding = subst (All is-holding) (sym items) (All-append is-holding f.kept.items (k ∷ []) h.holding (All-cons is-holding k [] here (All-nil is-holding)));
-  latest_is = latest ∙ ap (λ m. max m k.record.tick.0) h.latest_is ∙ sym (fold-append later-of 0 f.kept.items (k ∷ [])) ∙ ap latest_of (sym items);
-}
-
--- no fragment
-pub fragments-none : (f : Fragments) → f.kept.items ≡ [] → f.latest.0 ≡ 0 → HasFragments f
-fragments-none f items latest = record {
-  holding = subst (All is-holding) (sym items) (All-nil is-holding);
-  latest_is = latest ∙ ap latest_of (sym items);
-}
+pub behind-fades : (o : List ℕ → Option Packet) (f : Fragments) (pools : List (Pool Bytes)) (m now : ℕ) → lifetime ≤ now - m → All (OpenedBy m) pools
+    → All (IsKept m) f.kept.items → open_at now (pools_behind o f pools) ≡ []
+behind-fades o f pools m now h opened kept =
+    fades m now (pools_behind o f pools) h
+    (All-filter (lasts f.passed.0) (OpenedBy m) (fold (after_kept o) pools f.kept.items) (folded-by o m pools f.kept.items opened kept))
 
 -- an event sees the pools that are open at its tick
 pub event-same : (now : ℕ) (a b : List (Pool Bytes)) (p : Option Packet) → open_at now a ≡ open_at now b
@@ -178,18 +138,18 @@ event-passes now pools false None e = refl
 event-passes now pools false (Some p) e = rw e refl
 
 -- a record that holds no fragment is to each station a tick alone
-pub record-passes : (o : Opening) (pools : List (Pool Bytes)) (r : Record) → holds_fragment r.frame ≡ false
-    → after_event bytes_kept pools (event_heard o r) ≡ open_at r.tick.0 pools
+pub record-passes : (station : List ℕ) (pools : List (Pool Bytes)) (r : Record) → holds_fragment r.frame ≡ false
+    → after_event bytes_kept pools (event_of (heard_packet station) r) ≡ open_at r.tick.0 pools
 unfolding heard_packet
-record-passes o pools r e = event-passes r.tick.0 pools (is_sent o.station r.frame) (packet_in_frame packet_of r.frame) e
+record-passes station pools r e = event-passes r.tick.0 pools (is_sent station r.frame) (packet_in_frame packet_of r.frame) e
 
--- the pools that are left with one fragment more
-pub left-next : (o : List ℕ → Option Packet) (kept : List Fragment) (f : Fragment)
-    → open_at 0 (fold (after_kept o) [] (kept ++ f ∷ [])) ≡ after_kept o (fold (after_kept o) [] kept) f
-left-next o kept f = open-zero (fold (after_kept o) [] (kept ++ f ∷ [])) ∙ fold-append (after_kept o) [] kept (f ∷ [])
+-- the pools behind one fragment more
+pub behind-next : (o : List ℕ → Option Packet) (kept : List Fragment) (pools : List (Pool Bytes)) (f : Fragment)
+    → open_at 0 (fold (after_kept o) pools (kept ++ f ∷ [])) ≡ after_kept o (fold (after_kept o) pools kept) f
+behind-next o kept pools f = open-zero (fold (after_kept o) pools (kept ++ f ∷ [])) ∙ fold-append (after_kept o) pools kept (f ∷ [])
 
-pub kept-more : (o : List ℕ → Option Packet) (kept : List Fragment) (i : ℕ) (f : Fragment) → i < length kept → f ≡ get_or kept i f
-    → fold (after_kept o) [] (take (i + 1) kept) ≡ after_kept o (fold (after_kept o) [] (take i kept)) f
-kept-more o kept i f h e =
-    ap (fold (after_kept o) []) (take_more kept i f h ∙ ap (λ x. take i kept ++ x ∷ []) (sym e))
-    ∙ fold-append (after_kept o) [] (take i kept) (f ∷ [])
+pub kept-more : (o : List ℕ → Option Packet) (kept : List Fragment) (pools : List (Pool Bytes)) (i : ℕ) (f : Fragment) → i < length kept → f ≡ get_or kept i f
+    → fold (after_kept o) pools (take (i + 1) kept) ≡ after_kept o (fold (after_kept o) pools (take i kept)) f
+kept-more o kept pools i f h e =
+    ap (fold (after_kept o) pools) (take_more kept i f h ∙ ap (λ x. take i kept ++ x ∷ []) (sym e))
+    ∙ fold-append (after_kept o) pools (take i kept) (f ∷ [])

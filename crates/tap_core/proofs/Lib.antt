@@ -1,3 +1,4 @@
+pub mod Apart
 pub mod Counts
 pub mod HeardLaws
 pub mod Honest
@@ -9,4 +10,4 @@ pub mod Splits
 pub mod Steps
 pub mod Streams
 pub mod Tapped
-pub mod Thinned
+pub mod Waits

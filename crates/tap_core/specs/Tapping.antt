@@ -1,5 +1,5 @@
--- What a tap stands for that has heard records one after the other. Of them fragments alone are kept, and these only until one
--- asks for a connection.
+-- What a tap stands for that has heard records one after the other. None of them is kept but fragments that wait, and these only
+-- until one asks for a connection.
 use Rattle.std.specs.Prelude.{◌≡◌, ℕ, ◌<◌, false, List, [], Option, Some, None, All, vec_len}
 use Rattle.efi_base.specs.declared.plain.Record.{Record}
 use Rattle.wire_l4.specs.Segment.{Segment}
@@ -26,7 +26,7 @@ use Rattle.tap_core.specs.Watching.{IsSeenOf}
 pub record IsWaiting (records : List Record) (w : Waiting) : Type 0 where
   pub none : All (λ o. o ≡ None) (openings_of records)
   pub pools : w.reasm ≡ pools_sent records
-  pub early : KeepsFragments records w.early.fragments
+  pub early : KeepsFragments records w.early
   pub tally : Tallies records w.tally
 
 -- the station has heard the records: the pools are those that the records leave open to it, and the counts are the records'

@@ -1,87 +1,152 @@
-//! What is kept of the records in front of the segment that asks for a connection: fragments alone. Which station hears them
-//! shows only with that segment, so they are kept until no pool can be open, or until no station's pools change without them.
-ghost use Rattle.std.specs.Prelude.{◌≡◌, ◌∷◌, ◌++◌, [], List, ℕ, OnOk};
+//! What is kept of the records in front of the segment that asks for a connection. Which station hears their fragments shows
+//! only with that segment, so the pools are kept that they left open to each of their senders, and to all others. Where that is
+//! too many a fragment waits, and all behind it. How pools are kept apart isn't here.
+ghost use Rattle.std.specs.Prelude.{◌≡◌, ◌<◌, ◌∷◌, ◌++◌, [], true, false, max, List, ℕ, IfOk, OnOk};
+ghost use Rattle.std.specs.VecDeque.{deque_len};
 ghost use Rattle.efi_base.specs.declared.plain.Record.{Record};
-ghost use Rattle.tap_core.specs.Early.{HasFragments, KeepsFragments, pools_left};
+ghost use Rattle.ip_core.specs.Bytes.{bytes_kept};
+ghost use Rattle.ip_core.specs.Datagrams.{after_event};
+ghost use Rattle.ip_core.specs.Frames.{event_of};
+ghost use Rattle.ip_core.specs.Pools.{open_at};
+ghost use Rattle.tap_core.specs.Early.{AreRecent, IsTickOf, Keeps, KeepsFragments, Left, holds_fragment, left_by};
 ghost use Rattle.tap_core.specs.Frames.{heard_packet};
 
 use crate::fragments::Fragments;
 use crate::packets::holds_fragment;
-use crate::thinning::thinned;
-use efi_base::{NoMemory, Record};
+use crate::views::Views;
+use efi_base::{Mac, NoMemory, Record, Tick};
+use ip_core::{LIFETIME, Reasm};
 use std::alloc::Global;
 
-/// How many octets of memory fragments take before it is tried to forget some: each try takes time.
-const LEAST: usize = 4_194_304;
+/// How many octets of memory fragments take for each pool that is compared to take views from stations: it takes time.
+const PRICE: usize = 2_048;
 
-/// How many octets a fragment takes beside its frame, roughly.
+/// How many octets of memory a fragment takes beside its frame, roughly.
 const BESIDE: usize = 64;
 
-/// The fragments, how many octets they take, and how many these are when it is tried next to forget some.
+/// The pools that fragments left open to each station, and fragments that wait to be heard. The latest tick is the greatest of a
+/// fragment's since all pools were over. `budget` is how many octets of memory fragments took, less what was paid for comparing.
 #[derive(Drop)]
 pub struct Early {
-    pub fragments: Fragments,
-    octets: usize,
-    limit: usize,
+    views: Views,
+    pub waiting: Fragments,
+    latest: Tick,
+    budget: usize,
 }
 
 impl Early {
     /// No record was heard.
-    pub fn new(alloc: Global) -> Early
-        ensures { KeepsFragments [] result.fragments }
+    pub fn new(alloc: Global) -> Result<Early, NoMemory>
+        ensures { IfOk result (KeepsFragments []) }
     {
-        Early {
-            fragments: Fragments::new(alloc),
-            octets: 0,
-            limit: LEAST,
-        }
+        Ok(Early {
+            views: Views::new(alloc)?,
+            waiting: Fragments::new(alloc),
+            latest: Tick(0),
+            budget: 0,
+        })
     }
 
     /// Hears a record.
     pub fn hear(&mut self, alloc: Global, record: Record) -> Result<(), NoMemory>
-        ensures { (records : List Record) → KeepsFragments records self.old.fragments → OnOk result (KeepsFragments (records ++ «record» ∷ []) self.new.fragments) }
+        ensures { (records : List Record) → KeepsFragments records self.old → OnOk result (KeepsFragments (records ++ «record» ∷ []) self.new) }
     {
-        self.fragments.fade(record.tick);
-        if !holds_fragment(record.frame.as_slice()) {
-            self.fragments.pass(record.tick);
-            return Ok(());
+        self.pass(record.tick);
+        if holds_fragment(record.frame.as_slice()) {
+            self.keep(record)?;
+            self.settle(alloc);
         }
-        self.thin(alloc);
-        self.octets = self.octets.saturating_add(octets_of(&record));
-        self.fragments.keep(record)?;
         Ok(())
     }
 
-    /// Tries to forget fragments, where they take enough memory. Where there is no memory to try, all stay.
-    fn thin(&mut self, alloc: Global)
-        ensures left { (station : List ℕ) → pools_left (heard_packet station) self.new.fragments ≡ pools_left (heard_packet station) self.old.fragments }
-        ensures fragments { HasFragments self.old.fragments → HasFragments self.new.fragments }
+    /// The pools of this station.
+    pub fn pools(&self, alloc: Global, station: Mac) -> Result<Reasm, NoMemory>
+        ensures { (records : List Record) → KeepsFragments records self.now → IfOk result (λ pools. pools ≡ left_by records (heard_packet station.0)) }
     {
-        if self.fragments.kept.is_empty() {
-            self.octets = 0;
-            self.limit = LEAST;
-        }
-        if self.octets < self.limit {
+        let mut pools = self.views.pools(alloc, station)?;
+        self.waiting.hear(station, &mut pools);
+        Ok(pools)
+    }
+
+    /// A tick passes. Where each pool is over that a fragment can have opened, none waits any longer.
+    fn pass(&mut self, now: Tick)
+        ensures keeps { (left : Left) → Keeps left self.old → Keeps (λ counts. open_at now.0 (left counts)) self.new }
+        ensures latest { (records : List Record) → IsTickOf records self.old.latest.0 → IsTickOf records self.new.latest.0 }
+        ensures recent { AreRecent now.0 self.new }
+    {
+        if now.0.saturating_sub(self.latest.0) < LIFETIME {
+            self.waiting.pass(now);
             return;
         }
-        if let Ok(Some(fewer)) = thinned(alloc, &self.fragments) {
-            self.fragments = fewer;
-            self.octets = all_octets(&self.fragments);
+        self.views.tick(now);
+        self.waiting.forget();
+        self.latest = Tick(0);
+    }
+
+    /// One fragment more waits.
+    fn keep(&mut self, record: Record) -> Result<(), NoMemory>
+        ensures keeps { (left : Left) → Keeps left self.old → holds_fragment «record».frame ≡ true
+            → OnOk result (Keeps (λ counts. after_event bytes_kept (left counts) (event_of counts «record»)) self.new) }
+        ensures latest { OnOk result (self.new.latest.0 ≡ max self.old.latest.0 «record».tick.0) }
+    {
+        let tick = record.tick;
+        self.budget = self.budget.saturating_add(octets_of(&record));
+        self.waiting.keep(record)?;
+        self.latest = Tick(self.latest.0.max(tick.0));
+        Ok(())
+    }
+
+    /// Hears those that wait, the first one first, as far as there are views for their senders.
+    fn settle(&mut self, alloc: Global)
+        ensures keeps { (left : Left) → Keeps left self.old → Keeps left self.new }
+        ensures latest { self.new.latest ≡ self.old.latest }
+    {
+        while self.hear_next(alloc) || self.free_views() {}
+    }
+
+    /// Hears the first that waits, if there is a view for its sender, and answers whether it was heard.
+    fn hear_next(&mut self, alloc: Global) -> bool
+        ensures keeps { (left : Left) → Keeps left self.old → Keeps left self.new }
+        ensures latest { self.new.latest ≡ self.old.latest }
+        ensures budget { self.new.budget ≡ self.old.budget }
+        ensures fewer { result ≡ true → deque_len self.new.waiting.kept < deque_len self.old.waiting.kept }
+        ensures same { result ≡ false → deque_len self.new.waiting.kept ≡ deque_len self.old.waiting.kept }
+    {
+        let Some(fragment) = self.waiting.kept.front() else {
+            return false;
+        };
+        if !self.views.make_room(alloc, &fragment.record) {
+            return false;
         }
-        self.limit = LEAST.max(self.octets.saturating_mul(2));
+        self.views.hear(fragment);
+        let _ = self.waiting.kept.pop_front();
+        true
+    }
+
+    /// Takes views from stations to which the same is left as to the others at the tick of the first fragment that waits.
+    /// Answers whether there was one; false where too few octets came since to pay for it.
+    fn free_views(&mut self) -> bool
+        ensures keeps { (left : Left) → Keeps left self.old → Keeps left self.new }
+        ensures latest { self.new.latest ≡ self.old.latest }
+        ensures waiting { self.new.waiting ≡ self.old.waiting }
+        ensures cheaper { result ≡ true → self.new.budget < self.old.budget }
+    {
+        let Some(first) = self.waiting.kept.front() else {
+            return false;
+        };
+        let pools = self.views.others.open_count().max(1);
+        let price = PRICE.saturating_mul(pools);
+        if self.budget < price {
+            return false;
+        }
+        self.budget -= price;
+        self.views
+            .tick(Tick(first.passed.0.max(first.record.tick.0)));
+        self.views.release()
     }
 }
 
 /// How many octets of memory a fragment takes.
 fn octets_of(record: &Record) -> usize {
     record.frame.len().saturating_add(BESIDE)
-}
-
-/// How many octets of memory fragments take.
-fn all_octets(f: &Fragments) -> usize {
-    let mut octets = 0usize;
-    for fragment in &f.kept {
-        octets = octets.saturating_add(octets_of(&fragment.record));
-    }
-    octets
 }

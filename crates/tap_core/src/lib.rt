@@ -11,12 +11,10 @@ mod early;
 mod ends;
 // what a record adds to a download
 mod follow;
-// the fragments among them, and the pools that they leave
+// fragments that wait to be heard
 mod fragments;
 // what the station hears from its peer
 mod heard;
-// the fragments that open pools hold
-mod held;
 // what holds of the definitions
 mod laws;
 // the station, and what it hears record by record
@@ -37,8 +35,8 @@ mod tapping;
 mod telling;
 #[cfg(test)]
 mod tests;
-// which of the fragments can be forgotten
-mod thinning;
+// the pools that fragments left open to each station
+mod views;
 
 pub use ends::End;
 pub use laws::{

@@ -13,8 +13,8 @@ ghost use Rattle.tap_core.specs.Tapping.{Listens};
 
 use crate::answer::answer_at;
 use crate::download::Download;
+use crate::early::Early;
 use crate::follow::take_in;
-use crate::fragments::Fragments;
 use crate::opening::Syn;
 use crate::tally::Tally;
 use crate::telling::{Counts, count_one};
@@ -31,16 +31,11 @@ pub struct Listener {
 }
 
 /// The station that this segment shows, by what stands for the records that it has heard.
-pub fn listen(
-    alloc: Global,
-    syn: Syn,
-    early: &Fragments,
-    tally: &Tally,
-) -> Result<Listener, NoMemory>
+pub fn listen(alloc: Global, syn: Syn, early: &Early, tally: &Tally) -> Result<Listener, NoMemory>
     ensures syn { IfOk result (λ l. l.syn ≡ syn) }
     ensures listens { (records : List Record) → KeepsFragments records early.now → Tallies records tally.now → IfOk result (Listens records) }
 {
-    let reasm = early.pools(alloc, Some(syn.station))?;
+    let reasm = early.pools(alloc, syn.station)?;
     let counts = tally.counts(syn.station);
     Ok(Listener { syn, reasm, counts })
 }

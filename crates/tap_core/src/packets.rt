@@ -35,19 +35,10 @@ pub fn read_any(frame: &[u8]) -> Option<Ip<'_>>
 pub fn read_heard(station: Mac, frame: &[u8]) -> Option<Ip<'_>>
     ensures { option_map packet_seen result ≡ heard_packet station.0 frame.now }
 {
-    let Ok(ether) = read_ether(frame) else {
-        return None;
-    };
-    if ether.src == station {
+    if is_sent(station, frame) {
         return None;
     }
-    if ether.proto != IPV4 {
-        return None;
-    }
-    match read_ip(ether.payload) {
-        Ok(packet) => Some(packet),
-        Err(_) => None,
-    }
+    read_right(frame)
 }
 
 /// The packet of a frame, with a right checksum of its header, whoever sent it.

@@ -48,7 +48,7 @@ pub fn first_stage(alloc: Global) -> Result<Stage, NoMemory>
     ensures { IfOk result (λ s. (most : ℕ) → StandsFor most [] s) }
 {
     let reasm = Reasm::new(alloc)?;
-    let early = Early::new(alloc);
+    let early = Early::new(alloc)?;
     let tally = Tally::new(alloc);
     Ok(Stage::Opening(Waiting {
         reasm,
@@ -90,7 +90,7 @@ fn hear_first(alloc: Global, waiting: Waiting, record: Record) -> Result<Stage, 
             tally,
         }));
     };
-    let listener = listen(alloc, syn, &early.fragments, &tally)?;
+    let listener = listen(alloc, syn, &early, &tally)?;
     Ok(Stage::Answering(listener))
 }
 

@@ -311,45 +311,40 @@ fn hears_fragments_in_front(rt: HostRuntime) -> Result<(), Fail> {
     Ok(())
 }
 
-/// Frames that come in turns in front of the segment that asks for the connection, each with so much behind its packet that it
-/// is tried to forget some; whether these are forgotten; and how it ends where the answer's last fragment comes behind.
-const TURNS: [(&str, &[&str], bool, End); 5] = [
+/// Frames that come in turns in front of the segment that asks for the connection, and how it ends where the answer's last
+/// fragment comes behind it.
+const TURNS: [(&str, &[&str], End); 5] = [
     (
         "a datagram that is whole",
         &[ACCEPT_FRONT, ACCEPT_REST],
-        true,
         End::NoConnection,
     ),
     (
         "one that is whole, whose first fragment comes twice",
         &[ACCEPT_FRONT, ACCEPT_FRONT, ACCEPT_REST],
-        true,
         End::NoConnection,
     ),
     (
         "one that is whole to all but the station",
         &[ACCEPT_FRONT, OWN_REST],
-        false,
         End::OutOfTime,
     ),
     (
         "one that is whole to no one but the station",
         &[OWN_FRONT, ACCEPT_REST],
-        false,
         End::NoConnection,
     ),
     (
         "one that is open to all",
         &[ACCEPT_FRONT, ACCEPT_FRONT],
-        false,
         End::OutOfTime,
     ),
 ];
 
-/// The record of a frame with 65,536 octets behind it.
-fn long_record(alloc: Global, frame: &str) -> Result<Record, Fail> {
+/// The record of a frame with so many octets behind its packet.
+fn padded_record(alloc: Global, frame: &str, behind: usize) -> Result<Record, Fail> {
     let mut octets = from_hex(alloc, frame)?.into_vec();
-    let len = octets.len().saturating_add(65_536);
+    let len = octets.len().saturating_add(behind);
     octets.resize(len, 0)?;
     Ok(Record {
         tick: Tick(0),
@@ -357,37 +352,106 @@ fn long_record(alloc: Global, frame: &str) -> Result<Record, Fail> {
     })
 }
 
-/// How many of the frames are kept that come in 60 turns.
-fn kept_of(rt: &impl Abort, alloc: Global, frames: &[&str]) -> Result<usize, Fail> {
-    let mut early = Early::new(alloc);
-    for _ in 0..60 {
-        for frame in frames {
-            early
-                .hear(alloc, long_record(alloc, frame)?)
-                .expect(rt, "memory");
-        }
+/// The same from a sender of this number, which is added to the datagram's identification where it has one of its own.
+fn record_from(
+    alloc: Global,
+    frame: &str,
+    sender: u8,
+    own: bool,
+    behind: usize,
+) -> Result<Record, Fail> {
+    let mut octets = padded_record(alloc, frame, behind)?.frame.into_vec();
+    octets[6..12].copy_from_slice(&[2, 0, 0, 0, 1, sender]);
+    if own {
+        octets[19] = octets[19].wrapping_add(sender);
+        octets[25] = octets[25].wrapping_sub(sender);
     }
-    Ok(early.fragments.kept.len())
+    Ok(Record {
+        tick: Tick(0),
+        frame: Bytes::from_vec(octets),
+    })
 }
 
-fn end_behind(rt: &impl Abort, alloc: Global, frames: &[&str]) -> Result<End, Fail> {
-    let mut tap = Tap::new(alloc, 1).expect(rt, "memory");
-    for _ in 0..60 {
-        for frame in frames {
-            tap.hear(long_record(alloc, frame)?).expect(rt, "memory");
-        }
-    }
+/// A tap hears a record, and what is kept in front of the segment that asks for the connection.
+fn both_hear(
+    rt: &impl Abort,
+    alloc: Global,
+    tap: &mut Tap,
+    early: &mut Early,
+    record: Record,
+) -> Result<(), Fail> {
+    let mut octets = Vec::new(alloc);
+    octets.extend_from_slice(record.frame.as_slice())?;
+    let copy = Record {
+        tick: record.tick,
+        frame: Bytes::from_vec(octets),
+    };
+    tap.hear(record).expect(rt, "memory");
+    early.hear(alloc, copy).expect(rt, "memory");
+    Ok(())
+}
+
+/// How it ends where the segment that asks for the connection comes next, and then the answer's last fragment.
+fn end_behind(rt: &impl Abort, alloc: Global, tap: Tap) -> Result<End, Fail> {
+    let mut tap = tap;
     hear(rt, alloc, &mut tap, 1, SYN)?;
     hear(rt, alloc, &mut tap, 2, ACCEPT_REST)?;
     Ok(tap.finish().shown.end)
 }
 
 #[test]
-fn forgets_whole_datagrams(rt: HostRuntime) -> Result<(), Fail> {
-    for (name, frames, forgets, end) in &TURNS {
-        let kept = kept_of(&rt, rt.alloc(), frames)?;
-        assert_eq!(rt; kept < 64, *forgets, "{name}");
-        assert_eq!(rt; end_behind(&rt, rt.alloc(), frames)?, *end, "{name}");
+fn hears_fragments_of_each_sender(rt: HostRuntime) -> Result<(), Fail> {
+    let alloc = rt.alloc();
+    for (name, frames, end) in &TURNS {
+        let mut tap = Tap::new(alloc, 1).expect(&rt, "memory");
+        let mut early = Early::new(alloc).expect(&rt, "memory");
+        for turn in 0..60 * frames.len() {
+            let record = padded_record(alloc, frames[turn % frames.len()], 65_536)?;
+            both_hear(&rt, alloc, &mut tap, &mut early, record)?;
+        }
+        assert_eq!(rt; early.waiting.kept.len(), 0, "{name}");
+        assert_eq!(rt; end_behind(&rt, alloc, tap)?, *end, "{name}");
+    }
+    Ok(())
+}
+
+/// From how many senders the answer's first fragment comes, whether each has a datagram of its own, and how many octets are
+/// behind its packet; the answer's fragment that comes last, from one sender more; how many wait then, and how it ends.
+type Senders<'a> = (u8, bool, usize, &'a str, usize, End);
+
+const SENDERS: [Senders; 6] = [
+    (31, true, 0, ACCEPT_FRONT, 0, End::OutOfTime),
+    // all datagrams are one
+    (60, false, 0, ACCEPT_FRONT, 0, End::OutOfTime),
+    (60, false, 0, ACCEPT_REST, 0, End::NoConnection),
+    // to all others 16 datagrams are open, and too few octets come to compare so many
+    (60, true, 0, ACCEPT_FRONT, 29, End::OutOfTime),
+    (60, true, 0, ACCEPT_REST, 29, End::NoConnection),
+    (60, true, 65_536, ACCEPT_REST, 0, End::NoConnection),
+];
+
+#[test]
+fn hears_fragments_of_many_senders(rt: HostRuntime) -> Result<(), Fail> {
+    let alloc = rt.alloc();
+    for (senders, own, behind, last, waiting, end) in &SENDERS {
+        let mut tap = Tap::new(alloc, 1).expect(&rt, "memory");
+        let mut early = Early::new(alloc).expect(&rt, "memory");
+        for number in 0..*senders {
+            let record = record_from(alloc, ACCEPT_FRONT, number, *own, *behind)?;
+            both_hear(&rt, alloc, &mut tap, &mut early, record)?;
+        }
+        let record = record_from(alloc, last, *senders, false, *behind)?;
+        both_hear(&rt, alloc, &mut tap, &mut early, record)?;
+        assert_eq!(rt;
+            early.waiting.kept.len(),
+            *waiting,
+            "{senders} {own} {behind}"
+        );
+        assert_eq!(rt;
+            end_behind(&rt, alloc, tap)?,
+            *end,
+            "{senders} {own} {behind}"
+        );
     }
     Ok(())
 }

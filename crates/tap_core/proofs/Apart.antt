@@ -1,0 +1,208 @@
+-- What holds of the views of stations, when one is taken or freed, and when fragments are heard.
+use Rattle.std.proofs.Common.{◌≡◌, ℕ, zero, suc, ◌+◌, ◌<◌, Bool, true, false, ◌||◌, List, [], ◌∷◌, ◌++◌, map, length, get_or, take, drop, set, All, Option, Some, None, is_none, refl, sym, ap, subst, ◌∙◌, arith, if◌then◌else◌}
+use Rattle.std.specs.Bool.{Decides}
+use Rattle.std.specs.List.{list_any}
+use Rattle.std.specs.Str.{bytes_eq}
+use Rattle.std.proofs.lemmas.List.{drop-drop, drop-set-lt, get_or-drop, map_more, take_more_set}
+use Rattle.std.proofs.lemmas.List.Elements.{All-head, All-tail, All-cons, All-append, All-get_or, All-nil, All-set}
+use Rattle.std.proofs.lemmas.List.Folds.{list_any-append}
+use Rattle.std.proofs.lemmas.Bool.{false≢true, true≢false}
+use Rattle.std.proofs.lemmas.Slice.Eq.{bytes_eq-Decides}
+use Rattle.efi_base.specs.declared.plain.Mac.{Mac}
+use Rattle.wire_ip4.specs.Packet.{packet_of}
+use Rattle.ip_core.specs.Pools.{Pool, open_at}
+use Rattle.ip_core.specs.Bytes.{Bytes, bytes_kept}
+use Rattle.ip_core.specs.Datagrams.{after_event}
+use Rattle.ip_core.specs.Frames.{event_at, packet_in_frame}
+use Rattle.tap_core.specs.declared.fragments.Fragment.{Fragment}
+use Rattle.tap_core.specs.declared.views.View.{View}
+use Rattle.tap_core.specs.Early.{after_kept, has_view, is_view_of, packets_of, view_after, view_at, AreLeft, IsLeft, IsNotFrom, Left}
+use Rattle.tap_core.specs.Frames.{heard_packet}
+
+or-left : (x y : Bool) → (x || y) ≡ false → x ≡ false
+or-left true y h = h
+or-left false y h = refl
+
+or-right : (x y : Bool) → (x || y) ≡ false → y ≡ false
+or-right true y h = absurd (true≢false h)
+or-right false y h = h
+
+or-front : (x y : Bool) → (x || (y || false)) ≡ false → y ≡ false
+or-front true true h = absurd (true≢false h)
+or-front false true h = absurd (true≢false h)
+or-front x false h = refl
+
+or-none : (x y : Bool) → x ≡ false → y ≡ false → (x || y) ≡ false
+or-none x y h k = ap (λ b. b || y) h ∙ k
+
+-- where a written element has no such, and the one before hadn't, none has
+any-unset : (p : View → Bool) (xs : List View) (i : ℕ) (x d : View) → list_any p (set xs i x) ≡ false → p (get_or xs i d) ≡ false → list_any p xs ≡ false
+any-unset p [] i x d h k = refl
+any-unset p (y ∷ ys) zero x d h k = or-none (p y) (list_any p ys) k (or-right (p x) (list_any p ys) h)
+any-unset p (y ∷ ys) (suc i) x d h k =
+    or-none (p y) (list_any p ys) (or-left (p y) (list_any p (set ys i x)) h) (any-unset p ys i x d (or-right (p y) (list_any p (set ys i x)) h) k)
+
+any-set : (p : View → Bool) (xs : List View) (i : ℕ) (x : View) → i < length xs → list_any p (set xs i x) ≡ false → p x ≡ false
+any-set p [] i x l h = absurd (omega (arith, l))
+any-set p (y ∷ ys) zero x l h = or-left (p x) (list_any p ys) h
+any-set p (y ∷ ys) (suc i) x l h = any-set p ys i x (omega (arith, l)) (or-right (p y) (list_any p (set ys i x)) h)
+
+-- a station hears a fragment of another as one does that sent none
+heard-other : (station : List ℕ) (pools : List (Pool Bytes)) (k : Fragment) → IsNotFrom station k.record
+    → after_kept (heard_packet station) pools k ≡ after_kept (packets_of None) pools k
+unfolding heard_packet
+heard-other station pools k h =
+    ap (λ b. after_event bytes_kept (open_at k.passed.0 pools) (event_at k.record.tick.0 (if b then None else packet_in_frame packet_of k.record.frame))) h
+
+abbrev left-after : Left → Fragment → Left
+left-after left k counts = after_kept counts (left counts) k
+
+each-after : (left : Left) (k : Fragment) (views : List View) → All (IsLeft left) views → All (IsLeft (left-after left k)) (map (view_after k) views)
+each-after left k [] h = All-nil (IsLeft (left-after left k))
+each-after left k (v ∷ views) h =
+    All-cons (IsLeft (left-after left k)) (view_after k v) (map (view_after k) views)
+    (ap (λ p. after_kept (packets_of v.station) p k) (All-head (IsLeft left) v views h))
+    (each-after left k views (All-tail (IsLeft left) v views h))
+
+has-after : (station : List ℕ) (k : Fragment) (views : List View) → has_view station (map (view_after k) views) ≡ has_view station views
+has-after station k [] = refl
+has-after station k (v ∷ views) = ap (λ b. is_view_of station v || b) (has-after station k views)
+
+-- each station hears a fragment that it didn't send
+pub views-hear : (left : Left) (others others' : List (Pool Bytes)) (views views' : List View) (k : Fragment) → AreLeft left others views
+    → ((station : List ℕ) → has_view station views ≡ false → IsNotFrom station k.record)
+    → others' ≡ after_kept (packets_of None) others k → views' ≡ map (view_after k) views → AreLeft (left-after left k) others' views'
+views-hear left others others' views views' k h apart here there = record {
+  others_are = here ∙ ap (λ p. after_kept (packets_of None) p k) h.others_are;
+  each = subst (All (IsLeft (left-after left k))) (sym there) (each-after left k views h.each);
+  rest = λ station out.
+      let out' : has_view station views ≡ false = sym (has-after station k views) ∙ ap (has_view station) (sym there) ∙ out in
+      heard-other station (left (heard_packet station)) k (apart station out') ∙ ap (λ p. after_kept (packets_of None) p k) (h.rest station out');
+}
+
+-- the views after a step of a loop that changes each of them alike
+pub each-step : (f : View → View) (views now : List View) (i : ℕ) (d : View) → i < length views → i < length now
+    → take i now ≡ map f (take i views) → drop i now ≡ drop i views → (y : View) → y ≡ f (get_or now i d)
+    → (take (i + 1) (set now i y) ≡ map f (take (i + 1) views)) × (drop (i + 1) (set now i y) ≡ drop (i + 1) views)
+each-step f views now i d l m front back y e =
+    let at : i + 0 ≡ i = omega arith in
+    let there : get_or now i d ≡ get_or views i d =
+    ap (λ n. get_or now n d) (sym at) ∙ sym (get_or-drop i now 0 d) ∙ ap (λ xs. get_or xs 0 d) back ∙ get_or-drop i views 0 d ∙ ap (λ n. get_or views n d) at
+    in (
+      take_more_set now i y m ∙ ap (λ xs. xs ++ y ∷ []) front ∙ ap (λ x. map f (take i views) ++ x ∷ []) (e ∙ ap f there) ∙ sym (map_more f views i d l),
+      drop-set-lt (i + 1) now i y (omega arith) ∙ sym (drop-drop 1 i now) ∙ ap (drop 1) back ∙ drop-drop 1 i views,
+    )
+
+-- a view whose pools saw a tick
+pub ticked-view : (now : ℕ) (v : View) (pools : List (Pool Bytes)) → pools ≡ open_at now v.pools → record { station = v.station; pools = pools } ≡ view_at now v
+ticked-view now v pools e = ap (λ p. record { station = v.station; pools = p }) e
+
+abbrev left-at : Left → ℕ → Left
+left-at left now counts = open_at now (left counts)
+
+each-at : (left : Left) (now : ℕ) (views : List View) → All (IsLeft left) views → All (IsLeft (left-at left now)) (map (view_at now) views)
+each-at left now [] h = All-nil (IsLeft (left-at left now))
+each-at left now (v ∷ views) h =
+    All-cons (IsLeft (left-at left now)) (view_at now v) (map (view_at now) views)
+    (ap (open_at now) (All-head (IsLeft left) v views h))
+    (each-at left now views (All-tail (IsLeft left) v views h))
+
+has-at : (station : List ℕ) (now : ℕ) (views : List View) → has_view station (map (view_at now) views) ≡ has_view station views
+has-at station now [] = refl
+has-at station now (v ∷ views) = ap (λ b. is_view_of station v || b) (has-at station now views)
+
+-- a tick passes
+pub views-tick : (left : Left) (others others' : List (Pool Bytes)) (views views' : List View) (now : ℕ) → AreLeft left others views
+    → others' ≡ open_at now others → views' ≡ map (view_at now) views → AreLeft (left-at left now) others' views'
+views-tick left others others' views views' now h here there = record {
+  others_are = here ∙ ap (open_at now) h.others_are;
+  each = subst (All (IsLeft (left-at left now))) (sym there) (each-at left now views h.each);
+  rest = λ station out. ap (open_at now) (h.rest station (sym (has-at station now views) ∙ ap (has_view station) (sym there) ∙ out));
+}
+
+-- a view whose pools have heard the fragment
+pub heard-view : (k : Fragment) (v : View) (pools : List (Pool Bytes)) → pools ≡ after_kept (packets_of v.station) v.pools k
+    → record { station = v.station; pools = pools } ≡ view_after k v
+heard-view k v pools e = ap (λ p. record { station = v.station; pools = p }) e
+
+station-by : (left : Left) (station : List ℕ) (m : Mac) (pools : List (Pool Bytes)) (same : Bool) → Decides same (m.0 ≡ station) → same ≡ true
+    → pools ≡ left (heard_packet m.0) → pools ≡ left (heard_packet station)
+station-by left station m pools true d h e = e ∙ ap (λ s. left (heard_packet s)) (d.0 refl)
+station-by left station m pools false d h e = absurd (false≢true h)
+
+station-at : (left : Left) (station : List ℕ) (of : Option Mac) (pools : List (Pool Bytes)) → is_view_of station (record { station = of; pools = pools }) ≡ true
+    → pools ≡ left (packets_of of) → pools ≡ left (heard_packet station)
+station-at left station None pools h e = absurd (false≢true h)
+station-at left station (Some m) pools h e = station-by left station m pools (bytes_eq m.0 station) (bytes_eq-Decides m.0 station) h e
+
+-- a station's view has what is left to the station
+pub view-left : (left : Left) (station : List ℕ) (v : View) → is_view_of station v ≡ true → IsLeft left v → v.pools ≡ left (heard_packet station)
+view-left left station v h e = station-at left station v.station v.pools h e
+
+rest-by : (left : Left) (others : List (Pool Bytes)) (views : List View) (i : ℕ) (x d : View) (station : List ℕ) (of : Bool) → is_view_of station (get_or views i d) ≡ of
+    → AreLeft left others views → IsLeft left (get_or views i d) → (get_or views i d).pools ≡ others → has_view station (set views i x) ≡ false
+    → left (heard_packet station) ≡ left (packets_of None)
+rest-by left others views i x d station true e h here same out = sym (view-left left station (get_or views i d) e here) ∙ same ∙ h.others_are
+rest-by left others views i x d station false e h here same out = h.rest station (any-unset (is_view_of station) views i x d out e)
+
+-- a view is freed whose pools are those of the others
+pub view-freed : (left : Left) (others : List (Pool Bytes)) (views : List View) (i : ℕ) (x d : View) → i < length views → AreLeft left others views
+    → (get_or views i d).pools ≡ others → x.station ≡ None → x.pools ≡ others → AreLeft left others (set views i x)
+view-freed left others views i x d l h same none pools = record {
+  others_are = h.others_are;
+  each = All-set (IsLeft left) views i x (pools ∙ h.others_are ∙ ap (λ s. left (packets_of s)) (sym none)) h.each;
+  rest = λ station out.
+      rest-by left others views i x d station (is_view_of station (get_or views i d)) refl h (All-get_or (IsLeft left) views i d l h.each) same out;
+}
+
+spare-of : (station : List ℕ) (v : View) → v.station ≡ None → is_view_of station v ≡ false
+spare-of station v e = ap (λ s. is_view_of station (record { station = s; pools = v.pools })) e
+
+-- a spare view is taken for a station that has none
+pub view-taken : (left : Left) (others : List (Pool Bytes)) (views : List View) (i : ℕ) (x d : View) (m : Mac) → i < length views → AreLeft left others views
+    → has_view m.0 views ≡ false → (get_or views i d).station ≡ None → x.station ≡ Some m → x.pools ≡ (get_or views i d).pools → AreLeft left others (set views i x)
+view-taken left others views i x d m l h out spare taken pools =
+    let here : IsLeft left (get_or views i d) = All-get_or (IsLeft left) views i d l h.each in
+    record {
+      others_are = h.others_are;
+      each = All-set (IsLeft left) views i x
+          (pools ∙ here ∙ ap (λ s. left (packets_of s)) spare ∙ sym (h.rest m.0 out) ∙ ap (λ s. left (packets_of s)) (sym taken)) h.each;
+      rest = λ station none. h.rest station (any-unset (is_view_of station) views i x d none (spare-of station (get_or views i d) spare));
+    }
+
+of-taken : (station : List ℕ) (x : View) (m : Mac) → x.station ≡ Some m → is_view_of station x ≡ bytes_eq m.0 station
+of-taken station x m e = ap (λ s. is_view_of station (record { station = s; pools = x.pools })) e
+
+-- who then has none isn't that station
+pub taken-here : (views : List View) (i : ℕ) (x : View) (m : Mac) (station : List ℕ) → i < length views → x.station ≡ Some m
+    → has_view station (set views i x) ≡ false → bytes_eq m.0 station ≡ false
+taken-here views i x m station l e out = sym (of-taken station x m e) ∙ any-set (is_view_of station) views i x l out
+
+-- a view is opened for a station that has none
+pub view-opened : (left : Left) (others : List (Pool Bytes)) (views : List View) (x : View) (m : Mac) → AreLeft left others views
+    → has_view m.0 views ≡ false → x.station ≡ Some m → x.pools ≡ others → AreLeft left others (views ++ x ∷ [])
+view-opened left others views x m h out taken pools = record {
+  others_are = h.others_are;
+  each = All-append (IsLeft left) views (x ∷ []) h.each
+      (All-cons (IsLeft left) x [] (pools ∙ h.others_are ∙ sym (h.rest m.0 out) ∙ ap (λ s. left (packets_of s)) (sym taken)) (All-nil (IsLeft left)));
+  rest = λ station none.
+      h.rest station (or-left (has_view station views) (has_view station (x ∷ [])) (sym (list_any-append (is_view_of station) views (x ∷ [])) ∙ none));
+}
+
+pub opened-here : (views : List View) (x : View) (m : Mac) (station : List ℕ) → x.station ≡ Some m → has_view station (views ++ x ∷ []) ≡ false → bytes_eq m.0 station ≡ false
+opened-here views x m station e out =
+    sym (of-taken station x m e)
+    ∙ or-front (has_view station views) (is_view_of station x) (sym (list_any-append (is_view_of station) views (x ∷ [])) ∙ out)
+
+known-by : (station : List ℕ) (views : List View) (m : Mac) (same : Bool) → Decides same (m.0 ≡ station) → has_view m.0 views ≡ true
+    → has_view station views ≡ false → same ≡ false
+known-by station views m false d known h = refl
+known-by station views m true d known h = sym known ∙ ap (λ s. has_view s views) (d.0 refl) ∙ h
+
+-- who has no view isn't one who has
+pub known-here : (station : List ℕ) (views : List View) (m : Mac) → has_view m.0 views ≡ true → has_view station views ≡ false → bytes_eq m.0 station ≡ false
+known-here station views m known h = known-by station views m (bytes_eq m.0 station) (bytes_eq-Decides m.0 station) known h
+
+pub is-none : (s : Option Mac) → is_none s ≡ true → s ≡ None
+is-none None h = refl
+is-none (Some m) h = absurd (false≢true h)

@@ -1,0 +1,24 @@
+-- What the first fragment that waits does to pools it does to those that are open at its ticks.
+use Rattle.std.proofs.Common.{◌<◌, ◌∙◌, length, refl, arith}
+use Rattle.std.proofs.lemmas.List.Elements.{All-filter}
+use Rattle.ip_core.specs.Pools.{lasts, open_at}
+use Rattle.tap_core.specs.Early.{Left, OpenedBy}
+use Rattle.tap_core.specs.Frames.{heard_packet}
+use Rattle.tap_core.proofs.Waits.{behind-ticked}
+use Rattle.tap_core.proofs.early.Early.free_views.Goals as goal
+
+pub returns-clause-keeps : goal.returns-clause-keeps
+returns-clause-keeps c = λ left k.
+    let e = c.args.self.now in
+    let m = c.max.result in
+    let front : Left = λ counts. open_at m (k.front counts) in
+    let some : 0 < length e.waiting.kept.items = omega (arith, c.in-Some.ensures.variant.0 refl, e.waiting.kept.ok.0) in
+    record {
+      front = front;
+      views = c.release.ensures front (c.tick.ensures k.front k.views);
+      pools = λ station.
+          let counts = heard_packet station in
+          behind-ticked counts e.waiting c.in-Some.first.now (k.front counts) m some c.in-Some.ensures.lookup c.max.ensures ∙ k.pools station;
+      opened = λ counts. All-filter (lasts m) (OpenedBy e.latest.0) (k.front counts) (k.opened counts);
+      kept = k.kept;
+    }

@@ -1,0 +1,10 @@
+-- What is left stays, fragment by fragment.
+use Rattle.std.proofs.Common.{◌≡◌, ◌+◌, deque_len}
+use Rattle.tap_core.specs.Early.{Keeps, Left}
+use Rattle.tap_core.proofs.early.Early.settle.Given as goal
+
+abbrev pub invariant-loop-self : goal.invariant-loop-self
+invariant-loop-self l = ((left : Left) → Keeps left l.fn.self → Keeps left l.self) × (l.self.latest ≡ l.fn.self.latest)
+
+abbrev pub decreases-loop-self : goal.decreases-loop-self
+decreases-loop-self l = deque_len l.self.waiting.kept + l.self.budget

@@ -1,0 +1,6 @@
+-- The tick passes to each station.
+use Rattle.tap_core.proofs.Apart.{views-tick}
+use Rattle.tap_core.proofs.views.Views.tick.Goals as goal
+
+pub returns : goal.returns
+returns c = λ left h. views-tick left _ _ _ _ c.args.now.0 h c.tick.ensures c.tick_each.ensures

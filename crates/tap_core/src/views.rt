@@ -1,0 +1,184 @@
+//! The pools that fragments left open to stations, before one of them is known to be the one that is watched: each station
+//! hears all fragments but its own. What they do to pools isn't here.
+ghost use Rattle.std.specs.Prelude.{◌≡◌, [], true, false, List, ℕ, IfOk, None, is_none, map};
+ghost use Rattle.std.specs.List.{position};
+ghost use Rattle.std.specs.Str.{bytes_eq};
+ghost use Rattle.efi_base.specs.declared.plain.Record.{Record};
+ghost use Rattle.ip_core.specs.Pools.{open_at};
+ghost use Rattle.tap_core.specs.declared.views.View.{View};
+ghost use Rattle.tap_core.specs.Early.{AreLeft, IsNotFrom, Left, after_kept, has_view, is_view_of, packets_of, view_after, view_at};
+ghost use Rattle.tap_core.specs.Frames.{heard_packet};
+
+use crate::fragments::Fragment;
+use efi_base::{Mac, NoMemory, Record, Tick};
+use ip_core::{POOLS, Reasm};
+use std::alloc::Global;
+use wire_link::read_ether;
+
+/// How many stations' pools are kept apart: as many as there are pools for senders of datagrams that stay open, and as many for
+/// those whose datagrams come and go. Each view takes memory for all its pools, some 1.2 MB, of which 0.2 MB is used at once.
+const VIEWS: usize = 2 * POOLS;
+
+/// The pools of a station that sent some of the fragments. A view of no station is spare: its pools are those of the others.
+#[derive(Drop)]
+pub struct View {
+    pub station: Option<Mac>,
+    pub pools: Reasm,
+}
+
+/// The pools of some stations, and those of all others.
+#[derive(Drop)]
+pub struct Views {
+    pub others: Reasm,
+    pub apart: Vec<View>,
+}
+
+impl View {
+    fn is_of(&self, station: Mac) -> bool
+        ensures { result ≡ is_view_of station.0 self.now }
+    {
+        match self.station {
+            Some(known) => known.0 == station.0,
+            None => false,
+        }
+    }
+}
+
+impl Views {
+    /// No pool is open to any station.
+    pub fn new(alloc: Global) -> Result<Views, NoMemory>
+        ensures { IfOk result (λ v. AreLeft (λ _. []) v.others v.apart.items) }
+    {
+        Ok(Views {
+            others: Reasm::new(alloc)?,
+            apart: Vec::new(alloc),
+        })
+    }
+
+    /// A tick passes.
+    pub fn tick(&mut self, now: Tick)
+        ensures { (left : Left) → AreLeft left self.old.others self.old.apart.items
+            → AreLeft (λ counts. open_at now.0 (left counts)) self.new.others self.new.apart.items }
+    {
+        self.others.tick(now);
+        tick_each(&mut self.apart, now);
+    }
+
+    /// Each station hears a fragment that it didn't send. Its sender has a view.
+    pub fn hear(&mut self, fragment: &Fragment)
+        ensures { (left : Left) → AreLeft left self.old.others self.old.apart.items
+            → ((station : List ℕ) → has_view station self.old.apart.items ≡ false → IsNotFrom station fragment.now.record)
+            → AreLeft (λ counts. after_kept counts (left counts) fragment.now) self.new.others self.new.apart.items }
+    {
+        fragment.hear(None, &mut self.others);
+        hear_each(&mut self.apart, fragment);
+    }
+
+    /// Gives the sender of a record a view, if it has none, and answers whether it has one then. A frame too short for an
+    /// Ethernet header has no sender, and needs none.
+    pub fn make_room(&mut self, alloc: Global, record: &Record) -> bool
+        ensures left { (left : Left) → AreLeft left self.old.others self.old.apart.items → AreLeft left self.new.others self.new.apart.items }
+        ensures here { result ≡ true → (station : List ℕ) → has_view station self.new.apart.items ≡ false → IsNotFrom station «record».now }
+    {
+        match read_ether(record.frame.as_slice()) {
+            Ok(ether) => self.take_view(alloc, ether.src),
+            Err(_) => true,
+        }
+    }
+
+    /// Gives a station a view, if it has none, and answers whether it has one then.
+    fn take_view(&mut self, alloc: Global, station: Mac) -> bool
+        ensures left { (left : Left) → AreLeft left self.old.others self.old.apart.items → AreLeft left self.new.others self.new.apart.items }
+        ensures here { result ≡ true → (other : List ℕ) → has_view other self.new.apart.items ≡ false → bytes_eq station.0 other ≡ false }
+    {
+        if has_view(&self.apart, station) {
+            return true;
+        }
+        let Some(place) = find_spare(&self.apart) else {
+            return self.open(alloc, station);
+        };
+        self.apart[place].station = Some(station);
+        true
+    }
+
+    /// One view more, for a station that has none. Answers false where there are too many, or no memory.
+    fn open(&mut self, alloc: Global, station: Mac) -> bool
+        ensures left { (left : Left) → AreLeft left self.old.others self.old.apart.items → has_view station.0 self.old.apart.items ≡ false
+            → AreLeft left self.new.others self.new.apart.items }
+        ensures here { result ≡ true → (other : List ℕ) → has_view other self.new.apart.items ≡ false → bytes_eq station.0 other ≡ false }
+    {
+        if self.apart.len() >= VIEWS {
+            return false;
+        }
+        let Ok(pools) = self.others.try_clone(alloc) else {
+            return false;
+        };
+        let station = Some(station);
+        self.apart.push(View { station, pools }).is_ok()
+    }
+
+    /// Takes the views from stations to which the same is left as to the others, and answers whether there was one.
+    pub fn release(&mut self) -> bool
+        ensures { (left : Left) → AreLeft left self.old.others self.old.apart.items → AreLeft left self.new.others self.new.apart.items }
+    {
+        release_each(&mut self.apart, &self.others);
+        find_spare(&self.apart).is_some()
+    }
+
+    /// The pools of a station.
+    pub fn pools(&self, alloc: Global, station: Mac) -> Result<Reasm, NoMemory>
+        ensures { (left : Left) → AreLeft left self.now.others self.now.apart.items → IfOk result (λ pools. pools ≡ left (heard_packet station.0)) }
+    {
+        for view in &self.apart {
+            if view.is_of(station) {
+                return view.pools.try_clone(alloc);
+            }
+        }
+        self.others.try_clone(alloc)
+    }
+}
+
+/// Whether one of the views is the station's.
+fn has_view(views: &[View], station: Mac) -> bool
+    ensures { result ≡ has_view station.0 views.now }
+{
+    views.iter().any(|view| view.is_of(station))
+}
+
+/// Where a view is that is no station's.
+fn find_spare(views: &[View]) -> Option<usize>
+    ensures { result ≡ position (λ (v : View). is_none v.station) views.now }
+{
+    views.iter().position(|view| view.station.is_none())
+}
+
+/// Each view's station hears a fragment.
+fn hear_each(views: &mut Vec<View>, fragment: &Fragment)
+    ensures { views.new.items ≡ map (view_after fragment.now) views.old.items }
+{
+    for place in 0..views.len() {
+        let view = &mut views[place];
+        fragment.hear(view.station, &mut view.pools);
+    }
+}
+
+/// At each view a tick passes.
+fn tick_each(views: &mut Vec<View>, now: Tick)
+    ensures { views.new.items ≡ map (view_at now.0) views.old.items }
+{
+    for place in 0..views.len() {
+        let view = &mut views[place];
+        view.pools.tick(now);
+    }
+}
+
+/// Takes the views whose pools are those of the others from their stations.
+fn release_each(views: &mut Vec<View>, others: &Reasm)
+    ensures { (left : Left) → AreLeft left others.now views.old.items → AreLeft left others.now views.new.items }
+{
+    for place in 0..views.len() {
+        if views[place].pools.is_same(others) {
+            views[place].station = None;
+        }
+    }
+}

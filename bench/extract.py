@@ -11,7 +11,9 @@ Makes a capture of N megabytes (200 by default) for each kind of download, or fo
   chunked   in order, the body in chunks of 4,096 octets
   small     segments of 536 octets in order
   front     in order, behind as many octets of a connection between others, whose beginning isn't there
-  fragments in order, behind as many octets of datagrams between others in fragments, of which each hundredth isn't whole
+  fragments in order, behind as many octets of datagrams between two others in fragments, of which each hundredth isn't whole
+  senders   the same, where the fragments come from 97 others
+  copies    in order, behind as many octets of copies of one fragment between two others
 
 and lets each program read it, `cat` to a file, and the others (`tcpflow` and `tcpick` where they are installed) with the
 stream or image to a file. `hold` is Python reading its whole input into memory and then writing it, and nothing else: what
@@ -44,14 +46,16 @@ CHUNK = 4096
 BUFFER = 2**30
 HOLD = "import sys; sys.stdout.buffer.write(sys.stdin.buffer.read())"
 KINDS = {
-    # segment size, one in so many comes later, by so many segments, chunked, behind which other traffic
+    # segment size, one in so many comes later, by so many segments, chunked, behind which other traffic: fragments of so many
     "order": (1460, 0, 0, False, None),
     "late": (1460, 20, 3, False, None),
     "lost": (1460, 100, 40, False, None),
     "chunked": (1460, 0, 0, True, None),
     "small": (536, 0, 0, False, None),
     "front": (1460, 0, 0, False, "segments"),
-    "fragments": (1460, 0, 0, False, "fragments"),
+    "fragments": (1460, 0, 0, False, 2),
+    "senders": (1460, 0, 0, False, 97),
+    "copies": (1460, 0, 0, False, "copies"),
 }
 FRAGMENT, FRAGMENTS = 1480, 5
 
@@ -137,17 +141,28 @@ def other_segments(length, size):
         yield record(0, *OTHERS, place, 1, ACK, octets)
 
 
-def other_fragments(length):
-    """Datagrams between others, in fragments, of so many octets; the last fragment of each hundredth isn't there."""
+def fragment(number, senders, identification, place, more, octets):
+    """A record of a fragment from one of so many others to the next of them."""
+    ends = [number % senders, (number + 1) % senders]
+    macs = b"".join(b"\2\0\0\0\1" + bytes([end]) for end in ends)
+    addresses = [0x0A000100 + end for end in ends]
+    return packet_record(60 * number, macs, addresses, 17, identification % 2**16, more * 0x2000 + place // 8, octets)
+
+
+def other_fragments(length, senders):
+    """Datagrams between so many others, in fragments, of so many octets; the last fragment of each hundredth isn't there."""
     for number, (_, octets, _) in enumerate(segments(image_pieces(length), FRAGMENT * FRAGMENTS)):
-        (src_mac, src, _), (dest_mac, dest, _) = OTHERS if number % 2 else OTHERS[::-1]
         for place in range(0, len(octets), FRAGMENT):
             more = place + FRAGMENT < len(octets)
             if more or number % 100:
-                flags = more * 0x2000 + place // 8
-                yield packet_record(
-                    60 * number, src_mac + dest_mac, (src, dest), 17, number % 2**16, flags, octets[place:place + FRAGMENT]
-                )
+                yield fragment(number, senders, number, place, more, octets[place:place + FRAGMENT])
+
+
+def copies(length):
+    """Copies of the first fragment of a datagram, of so many octets, at rising times."""
+    octets = next(iter(image_pieces(length)))[:FRAGMENT]
+    for number in range(length // FRAGMENT):
+        yield fragment(2 * number, 2, 0, 0, True, octets)
 
 
 class Receiver:
@@ -170,8 +185,10 @@ def write_capture(path, length, kind):
         out.write(struct.pack("<IHHIIII", 0xA1B2C3D4, 2, 4, 0, 0, 262144, 1))
         if behind == "segments":
             out.writelines(other_segments(length, size))
-        if behind == "fragments":
-            out.writelines(other_fragments(length))
+        if behind == "copies":
+            out.writelines(copies(length))
+        if isinstance(behind, int):
+            out.writelines(other_fragments(length, behind))
         out.write(record(0, CLIENT, SERVER, ISS, 0, SYN))
         out.write(record(100, SERVER, CLIENT, IRS, ISS + 1, SYN | ACK))
         out.write(record(200, CLIENT, SERVER, ISS + 1, IRS + 1, PSH | ACK, REQUEST))

@@ -20,10 +20,8 @@ pub fn reach(ring: &mut Vec<u8>, room: usize, place: u64, count: usize)
 {
     let at = (place % room as u64) as usize;
     let len = at + count.min(room - at);
-    while ring.len() < len {
-        let Ok(()) = ring.push(0) else {
-            return;
-        };
+    if ring.len() < len {
+        let _ = ring.resize(len, 0);
     }
 }
 

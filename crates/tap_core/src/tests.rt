@@ -361,10 +361,14 @@ fn record_from(
     behind: usize,
 ) -> Result<Record, Fail> {
     let mut octets = padded_record(alloc, frame, behind)?.frame.into_vec();
-    octets[6..12].copy_from_slice(&[2, 0, 0, 0, 1, sender]);
-    if own {
-        octets[19] = octets[19].wrapping_add(sender);
-        octets[25] = octets[25].wrapping_sub(sender);
+    for (place, octet) in octets.iter_mut().enumerate() {
+        match place {
+            10 => *octet = 1,
+            11 => *octet = sender,
+            19 if own => *octet = octet.wrapping_add(sender),
+            25 if own => *octet = octet.wrapping_sub(sender),
+            _ => {}
+        }
     }
     Ok(Record {
         tick: Tick(0),

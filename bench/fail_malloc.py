@@ -10,9 +10,8 @@ ends as it should where its status is 6 and what it wrote is a front of what it 
 output are those with ample memory. Anything else is told: another status, a signal, other octets.
 
 The failing allocator is made with `cc` in a temporary folder and is loaded in front of the C library. The captures are
-samples/first.pcap, those of bench/extract.py with few octets, one that is cut off, and one behind 5 MB of fragments, so that
-some of these are forgotten. The status is 1 where the program ended
-otherwise. Needs `cc` and Python's standard library.
+samples/first.pcap, those of bench/extract.py with few octets, one that is cut off, and one behind 5 MB of fragments of long
+datagrams. The status is 1 where the program ended otherwise. Needs `cc` and Python's standard library.
 """
 import argparse
 import os
@@ -94,7 +93,7 @@ def captures(folder):
 
 
 def long_fragments():
-    """Datagrams between others, in two fragments each, of so many octets that the first of them are forgotten."""
+    """Datagrams between others, in two fragments each, nearly as long as a pool."""
     (src_mac, src, _), (dest_mac, dest, _) = extract.OTHERS
     for number in range(LONG):
         for flags, length in ((0x2000, 60_000), (60_000 // 8, 5_000)):

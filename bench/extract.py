@@ -14,6 +14,8 @@ Makes a capture of N megabytes (200 by default) for each kind of download, or fo
   fragments in order, behind as many octets of datagrams between two others in fragments, of which each hundredth isn't whole
   senders   the same, where the fragments come from 97 others
   copies    in order, behind as many octets of copies of one fragment between two others
+  missed    as fragments, behind 60 datagrams whose last fragments come each from another sender, which alone misses them
+  turns     in order, behind as many octets of short datagrams in two fragments from 10,000 others in turn, while 15 stay open
 
 and lets each program read it, `cat` to a file, and the others (`tcpflow` and `tcpick` where they are installed) with the
 stream or image to a file. `hold` is Python reading its whole input into memory and then writing it, and nothing else: what
@@ -56,8 +58,10 @@ KINDS = {
     "fragments": (1460, 0, 0, False, 2),
     "senders": (1460, 0, 0, False, 97),
     "copies": (1460, 0, 0, False, "copies"),
+    "missed": (1460, 0, 0, False, "missed"),
+    "turns": (1460, 0, 0, False, "turns"),
 }
-FRAGMENT, FRAGMENTS = 1480, 5
+FRAGMENT, FRAGMENTS, SHORT, OPEN = 1480, 5, 64, 15
 
 
 def image_pieces(length):
@@ -141,10 +145,12 @@ def other_segments(length, size):
         yield record(0, *OTHERS, place, 1, ACK, octets)
 
 
-def fragment(number, senders, identification, place, more, octets):
-    """A record of a fragment from one of so many others to the next of them."""
+def fragment(number, senders, identification, place, more, octets, sender=None):
+    """A record of a fragment from one of so many others to the next of them, whose frame may come from another sender."""
     ends = [number % senders, (number + 1) % senders]
-    macs = b"".join(b"\2\0\0\0\1" + bytes([end]) for end in ends)
+    macs = b"".join(b"\2\0\0\1" + struct.pack(">H", end) for end in ends)
+    if sender is not None:
+        macs = b"\2\0\0\2" + struct.pack(">H", sender) + macs[6:]
     addresses = [0x0A000100 + end for end in ends]
     return packet_record(60 * number, macs, addresses, 17, identification % 2**16, more * 0x2000 + place // 8, octets)
 
@@ -165,6 +171,23 @@ def copies(length):
         yield fragment(2 * number, 2, 0, 0, True, octets)
 
 
+def missed(length):
+    """Datagrams between two others of so many octets in fragments; 60 in front come with their last fragments from other senders."""
+    for sender in range(60):
+        yield fragment(0, 2, 2**15 + sender, 0, True, bytes(SHORT))
+        yield fragment(0, 2, 2**15 + sender, SHORT, False, bytes(SHORT), sender)
+    yield from other_fragments(length, 2)
+
+
+def turns(length):
+    """Datagrams of two short fragments, so many octets in all, each from the next of many others, while some stay open."""
+    for number in range(OPEN):
+        yield fragment(0, 2, 2**15 + number, 0, True, bytes(SHORT))
+    for number in range(length // (2 * SHORT)):
+        yield fragment(2 * (number // 60), 2, number, 0, True, bytes(SHORT), number % 10_000)
+        yield fragment(2 * (number // 60), 2, number, SHORT, False, bytes(SHORT), number % 10_000)
+
+
 class Receiver:
     """What the client acknowledges: the octets that came without a gap."""
 
@@ -177,6 +200,9 @@ class Receiver:
             self.accepted += self.ahead.pop(self.accepted)
 
 
+FRONTS = {"copies": copies, "missed": missed, "turns": turns}
+
+
 def write_capture(path, length, kind):
     """A capture of the download; the client acknowledges every second segment."""
     size, every, by, chunked, behind = KINDS[kind]
@@ -185,8 +211,8 @@ def write_capture(path, length, kind):
         out.write(struct.pack("<IHHIIII", 0xA1B2C3D4, 2, 4, 0, 0, 262144, 1))
         if behind == "segments":
             out.writelines(other_segments(length, size))
-        if behind == "copies":
-            out.writelines(copies(length))
+        if behind in FRONTS:
+            out.writelines(FRONTS[behind](length))
         if isinstance(behind, int):
             out.writelines(other_fragments(length, behind))
         out.write(record(0, CLIENT, SERVER, ISS, 0, SYN))

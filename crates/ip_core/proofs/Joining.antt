@@ -91,20 +91,20 @@ none-at : (b : Bool) (q : ℕ) → cond b (Some q) None ≡ None → b ≡ false
 none-at true q e = absurd (cc)
 none-at false q e = refl
 
-found-at : {X : Type 0} (k : Keeping X) (key : Key) (pools : List (Pool X)) (i : ℕ) → position (is_of key) pools ≡ Some i → IsAt k key pools i
+pub found-at : {X : Type 0} (k : Keeping X) (key : Key) (pools : List (Pool X)) (i : ℕ) → position (is_of key) pools ≡ Some i → IsAt k key pools i
 found-at k key pools i e =
     let s = some-at (nat_lt (position_or_len (is_of key) pools) (length pools)) (position_or_len (is_of key) pools) i e in
     let less : position_or_len (is_of key) pools < length pools = grind (arith, nat_tests, s.0) in
     at-place k key pools i s.1 (omega (arith, less, s.1))
 
-found-nowhere : {X : Type 0} (k : Keeping X) (key : Key) (pools : List (Pool X)) → position (is_of key) pools ≡ None → IsNowhere k key pools
+pub found-nowhere : {X : Type 0} (k : Keeping X) (key : Key) (pools : List (Pool X)) → position (is_of key) pools ≡ None → IsNowhere k key pools
 found-nowhere k key pools e =
     let s = none-at (nat_lt (position_or_len (is_of key) pools) (length pools)) (position_or_len (is_of key) pools) e in
     let past : length pools ≤ position_or_len (is_of key) pools = grind (arith, nat_tests, s) in
     nowhere-place k key pools past
 
 -- a fragment within the places, of a key with a pool
-admitted : (f : Packet) (pools : List (Pool Bytes)) → reach_of f ≤ most_bytes → list_any (is_of (key_of f)) pools ≡ true → is_dropped f pools ≡ false
+pub admitted : (f : Packet) (pools : List (Pool Bytes)) → reach_of f ≤ most_bytes → list_any (is_of (key_of f)) pools ≡ true → is_dropped f pools ≡ false
 admitted f pools h any =
     let near : nat_lt most_bytes (reach_of f) ≡ false = grind (arith, nat_tests) in
     ap (λ b. b || (not (list_any (is_of (key_of f)) pools) && nat_le most_pools (length pools))) near
@@ -120,7 +120,7 @@ admitted-new f pools h any less =
     ∙ ap (λ b. not b && nat_le most_pools (length pools)) any ∙ room
 
 -- one of a new key while none is free
-dropped-new : (f : Packet) (pools : List (Pool Bytes)) → list_any (is_of (key_of f)) pools ≡ false → most_pools ≤ length pools → is_dropped f pools ≡ true
+pub dropped-new : (f : Packet) (pools : List (Pool Bytes)) → list_any (is_of (key_of f)) pools ≡ false → most_pools ≤ length pools → is_dropped f pools ≡ true
 dropped-new f pools any full =
     let room : nat_le most_pools (length pools) ≡ true = grind (arith, nat_tests) in
     or-true (nat_lt most_bytes (reach_of f)) _ (ap (λ b. not b && nat_le most_pools (length pools)) any ∙ room)

@@ -1,12 +1,12 @@
 //! Datagrams from fragments (RFC 791, section 3.2): pools that hold the fragments of one datagram each, until it is
 //! whole or too old. Nothing here reads a header.
-ghost use Rattle.std.specs.Prelude.{⊤, true, List, ◌≡◌, ◌+◌, ◌≤◌, ◌<◌, [], length, take, remove, slice_set, slice_index_or, IfOk, IfSome, option_map, is_some, vec_len, if◌then◌else◌};
-ghost use Rattle.std.specs.List.{position};
+ghost use Rattle.std.specs.Prelude.{⊤, true, List, ◌≡◌, ◌+◌, ◌≤◌, ◌<◌, [], nat_le, nat_lt, length, take, remove, slice_set, slice_index_or, IfOk, IfSome, option_map, is_some, vec_len, if◌then◌else◌};
+ghost use Rattle.std.specs.List.{list_all, position};
 ghost use Rattle.std.specs.Vec.{vec_capacity};
 ghost use Rattle.std.specs.Borrow.{sem, follows_so};
 ghost use Rattle.wire_ip4.specs.Packet.{Packet};
 ghost use Rattle.wire_ip4.specs.Seen.{packet_seen};
-ghost use Rattle.ip_core.specs.Pools.{Pool, key_of, is_of, open_at, most_bytes, most_pools, joined, after_fragment, after_packet, datagram_at};
+ghost use Rattle.ip_core.specs.Pools.{Pool, key_of, is_dropped, is_of, lasts, open_at, most_bytes, most_pools, reach_of, joined, after_fragment, after_packet, datagram_at};
 ghost use Rattle.ip_core.specs.Bytes.{Bytes, bytes_kept, bytes_with};
 ghost use Rattle.ip_core.specs.Datagrams.{fragments_kept};
 ghost use Rattle.ip_core.specs.Standing.{StandFor};
@@ -86,6 +86,14 @@ impl Reasm {
             Some(count) => Some(lent(p, &self.room[..count])),
             None => None,
         }
+    }
+
+    /// Whether a fragment that comes at a tick is dropped: one that reaches past the most octets of a datagram, or of a new
+    /// key while all pools are open. It then does no more than that tick.
+    pub fn drops(&self, now: Tick, f: &Ip) -> bool
+        ensures { result ≡ is_dropped (packet_seen f.now) (open_at now.0 self.now) }
+    {
+        is_too_long(f) || (is_full(&self.pools, now.0) && find(&self.pools, key_of(f)).is_none())
     }
 
     /// Whether the same pools are open in both, in the same order, and hold the same.
@@ -194,6 +202,29 @@ fn close_old(pools: &mut Vec<Slot>, free: &mut Vec<Slot>, now: u64)
     }
 }
 
+/// Whether a fragment reaches past the most octets that a datagram has.
+fn is_too_long(f: &Ip) -> bool
+    ensures { result ≡ nat_lt most_bytes (reach_of (packet_seen f.now)) }
+{
+    f.place as usize + f.payload.len() > MOST_OCTETS as usize
+}
+
+/// Whether all pools that may be open are open at a tick.
+fn is_full(pools: &[Slot], now: u64) -> bool
+    requires { length pools.now ≤ most_pools }
+    ensures full { result ≡ nat_le most_pools (length (open_at now pools.now)) }
+    ensures all { result ≡ true → open_at now pools.now ≡ pools.now }
+{
+    pools.len() == POOLS && all_last(pools, now)
+}
+
+/// Whether none of the pools is over.
+fn all_last(pools: &[Slot], now: u64) -> bool
+    ensures { result ≡ list_all (lasts now) pools.now }
+{
+    pools.iter().all(|slot| slot.lasts(now))
+}
+
 /// Where the key's pool is.
 fn find(pools: &[Slot], key: FragmentKey) -> Option<usize>
     ensures { result ≡ position (is_of (key_seen key)) pools.now }
@@ -238,7 +269,7 @@ fn join(
     ensures pools_memory { most_pools ≤ vec_capacity pools.new }
     ensures free_memory { most_pools ≤ vec_capacity free.new }
 {
-    if f.place as usize + f.payload.len() > MOST_OCTETS as usize {
+    if is_too_long(f) {
         return None;
     }
     let key = key_of(f);

@@ -99,6 +99,23 @@ fn sixteen_pools(rt: HostRuntime) {
     let mut reasm = Reasm::new(rt.alloc()).expect(&rt, "memory for 16 pools");
     open_pools(&rt, &mut reasm, 17);
     assert_eq!(rt; reasm.open_count(), 16);
+    let rows: [(u64, u16, u16, bool); 6] = [
+        (0, 16, 8, true),
+        (29_999, 16, 8, true),
+        (30_000, 16, 8, false),
+        (0, 0, 16, false),
+        // the last octet that a datagram has, and one behind it
+        (0, 0, 65_512, false),
+        (0, 0, 65_520, true),
+    ];
+    for (tick, id, place, dropped) in rows {
+        let fragment = packet(id, place, false, b"end");
+        assert_eq!(rt;
+            reasm.drops(Tick(tick), &fragment),
+            dropped,
+            "{tick} {id} {place}"
+        );
+    }
     let rows: [Row; 2] = [
         (0, 16, 8, false, b"none", None),
         (0, 0, 16, false, b"its own pool", None),

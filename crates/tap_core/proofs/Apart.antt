@@ -1,5 +1,5 @@
 -- What holds of the views of stations, when one is taken or freed, and when fragments are heard.
-use Rattle.std.proofs.Common.{◌≡◌, ℕ, zero, suc, ◌+◌, ◌<◌, Bool, true, false, ◌||◌, List, [], ◌∷◌, ◌++◌, map, length, get_or, take, drop, set, All, Option, Some, None, is_none, refl, sym, ap, subst, ◌∙◌, arith, if◌then◌else◌}
+use Rattle.std.proofs.Common.{◌≡◌, ℕ, zero, suc, ◌+◌, ◌<◌, Bool, true, false, ◌||◌, List, [], ◌∷◌, ◌++◌, map, length, get_or, take, drop, set, All, Option, Some, None, is_none, refl, sym, ap, subst, ◌∙◌, arith}
 use Rattle.std.specs.Bool.{Decides}
 use Rattle.std.specs.List.{list_any}
 use Rattle.std.specs.Str.{bytes_eq}
@@ -9,14 +9,11 @@ use Rattle.std.proofs.lemmas.List.Folds.{list_any-append}
 use Rattle.std.proofs.lemmas.Bool.{false≢true, true≢false}
 use Rattle.std.proofs.lemmas.Slice.Eq.{bytes_eq-Decides}
 use Rattle.efi_base.specs.declared.plain.Mac.{Mac}
-use Rattle.wire_ip4.specs.Packet.{packet_of}
 use Rattle.ip_core.specs.Pools.{Pool, open_at}
-use Rattle.ip_core.specs.Bytes.{Bytes, bytes_kept}
-use Rattle.ip_core.specs.Datagrams.{after_event}
-use Rattle.ip_core.specs.Frames.{event_at, packet_in_frame}
+use Rattle.ip_core.specs.Bytes.{Bytes}
 use Rattle.tap_core.specs.declared.fragments.Fragment.{Fragment}
 use Rattle.tap_core.specs.declared.views.View.{View}
-use Rattle.tap_core.specs.Early.{after_kept, has_view, is_view_of, packets_of, view_after, view_at, AreLeft, IsLeft, IsNotFrom, Left}
+use Rattle.tap_core.specs.Early.{after_kept, has_view, is_view_of, packets_of, view_after, view_at, view_with, AreAlike, AreLeft, IsLeft, Left}
 use Rattle.tap_core.specs.Frames.{heard_packet}
 
 or-left : (x y : Bool) → (x || y) ≡ false → x ≡ false
@@ -47,37 +44,41 @@ any-set p [] i x l h = absurd (omega (arith, l))
 any-set p (y ∷ ys) zero x l h = or-left (p x) (list_any p ys) h
 any-set p (y ∷ ys) (suc i) x l h = any-set p ys i x (omega (arith, l)) (or-right (p y) (list_any p (set ys i x)) h)
 
--- a station hears a fragment of another as one does that sent none
-heard-other : (station : List ℕ) (pools : List (Pool Bytes)) (k : Fragment) → IsNotFrom station k.record
-    → after_kept (heard_packet station) pools k ≡ after_kept (packets_of None) pools k
-unfolding heard_packet
-heard-other station pools k h =
-    ap (λ b. after_event bytes_kept (open_at k.passed.0 pools) (event_at k.record.tick.0 (if b then None else packet_in_frame packet_of k.record.frame))) h
+abbrev Change : Type 0
+Change = Option Mac → List (Pool Bytes) → List (Pool Bytes)
+
+-- where what is left changes as the pools of the views do, they have what is left
+each-with : (change : Change) (left left' : Left) → ((station : Option Mac) → change station (left (packets_of station)) ≡ left' (packets_of station))
+    → (views : List View) → All (IsLeft left) views → All (IsLeft left') (map (view_with change) views)
+each-with change left left' same [] h = All-nil (IsLeft left')
+each-with change left left' same (v ∷ views) h =
+    All-cons (IsLeft left') (view_with change v) (map (view_with change) views)
+    (ap (change v.station) (All-head (IsLeft left) v views h) ∙ same v.station)
+    (each-with change left left' same views (All-tail (IsLeft left) v views h))
+
+has-with : (change : Change) (station : List ℕ) (views : List View) → has_view station (map (view_with change) views) ≡ has_view station views
+has-with change station [] = refl
+has-with change station (v ∷ views) = ap (λ b. is_view_of station v || b) (has-with change station views)
+
+-- who has no view afterwards had none
+had-none : (change : Change) (station : List ℕ) (views views' : List View) → views' ≡ map (view_with change) views → has_view station views' ≡ false
+    → has_view station views ≡ false
+had-none change station views views' there out = sym (has-with change station views) ∙ ap (has_view station) (sym there) ∙ out
 
 abbrev left-after : Left → Fragment → Left
 left-after left k counts = after_kept counts (left counts) k
 
-each-after : (left : Left) (k : Fragment) (views : List View) → All (IsLeft left) views → All (IsLeft (left-after left k)) (map (view_after k) views)
-each-after left k [] h = All-nil (IsLeft (left-after left k))
-each-after left k (v ∷ views) h =
-    All-cons (IsLeft (left-after left k)) (view_after k v) (map (view_after k) views)
-    (ap (λ p. after_kept (packets_of v.station) p k) (All-head (IsLeft left) v views h))
-    (each-after left k views (All-tail (IsLeft left) v views h))
-
-has-after : (station : List ℕ) (k : Fragment) (views : List View) → has_view station (map (view_after k) views) ≡ has_view station views
-has-after station k [] = refl
-has-after station k (v ∷ views) = ap (λ b. is_view_of station v || b) (has-after station k views)
-
 -- each station hears a fragment that it didn't send
-pub views-hear : (left : Left) (others others' : List (Pool Bytes)) (views views' : List View) (k : Fragment) → AreLeft left others views
-    → ((station : List ℕ) → has_view station views ≡ false → IsNotFrom station k.record)
+pub views-hear : (left : Left) (others others' : List (Pool Bytes)) (views views' : List View) (k : Fragment) → AreLeft left others views → AreAlike k others views
     → others' ≡ after_kept (packets_of None) others k → views' ≡ map (view_after k) views → AreLeft (left-after left k) others' views'
-views-hear left others others' views views' k h apart here there = record {
+views-hear left others others' views views' k h alike here there = record {
   others_are = here ∙ ap (λ p. after_kept (packets_of None) p k) h.others_are;
-  each = subst (All (IsLeft (left-after left k))) (sym there) (each-after left k views h.each);
+  each = subst (All (IsLeft (left-after left k))) (sym there)
+      (each-with (λ station pools. after_kept (packets_of station) pools k) left (left-after left k) (λ station. refl) views h.each);
   rest = λ station out.
-      let out' : has_view station views ≡ false = sym (has-after station k views) ∙ ap (has_view station) (sym there) ∙ out in
-      heard-other station (left (heard_packet station)) k (apart station out') ∙ ap (λ p. after_kept (packets_of None) p k) (h.rest station out');
+      let out' = had-none (λ station pools. after_kept (packets_of station) pools k) station views views' there out in
+      ap (λ p. after_kept (heard_packet station) p k) (h.rest station out' ∙ sym h.others_are) ∙ alike station out'
+      ∙ ap (λ p. after_kept (packets_of None) p k) h.others_are;
 }
 
 -- the views after a step of a loop that changes each of them alike
@@ -93,37 +94,22 @@ each-step f views now i d l m front back y e =
       drop-set-lt (i + 1) now i y (omega arith) ∙ sym (drop-drop 1 i now) ∙ ap (drop 1) back ∙ drop-drop 1 i views,
     )
 
--- a view whose pools saw a tick
-pub ticked-view : (now : ℕ) (v : View) (pools : List (Pool Bytes)) → pools ≡ open_at now v.pools → record { station = v.station; pools = pools } ≡ view_at now v
-ticked-view now v pools e = ap (λ p. record { station = v.station; pools = p }) e
-
 abbrev left-at : Left → ℕ → Left
 left-at left now counts = open_at now (left counts)
-
-each-at : (left : Left) (now : ℕ) (views : List View) → All (IsLeft left) views → All (IsLeft (left-at left now)) (map (view_at now) views)
-each-at left now [] h = All-nil (IsLeft (left-at left now))
-each-at left now (v ∷ views) h =
-    All-cons (IsLeft (left-at left now)) (view_at now v) (map (view_at now) views)
-    (ap (open_at now) (All-head (IsLeft left) v views h))
-    (each-at left now views (All-tail (IsLeft left) v views h))
-
-has-at : (station : List ℕ) (now : ℕ) (views : List View) → has_view station (map (view_at now) views) ≡ has_view station views
-has-at station now [] = refl
-has-at station now (v ∷ views) = ap (λ b. is_view_of station v || b) (has-at station now views)
 
 -- a tick passes
 pub views-tick : (left : Left) (others others' : List (Pool Bytes)) (views views' : List View) (now : ℕ) → AreLeft left others views
     → others' ≡ open_at now others → views' ≡ map (view_at now) views → AreLeft (left-at left now) others' views'
 views-tick left others others' views views' now h here there = record {
   others_are = here ∙ ap (open_at now) h.others_are;
-  each = subst (All (IsLeft (left-at left now))) (sym there) (each-at left now views h.each);
-  rest = λ station out. ap (open_at now) (h.rest station (sym (has-at station now views) ∙ ap (has_view station) (sym there) ∙ out));
+  each = subst (All (IsLeft (left-at left now))) (sym there) (each-with (λ station pools. open_at now pools) left (left-at left now) (λ station. refl) views h.each);
+  rest = λ station out. ap (open_at now) (h.rest station (had-none (λ station pools. open_at now pools) station views views' there out));
 }
 
--- a view whose pools have heard the fragment
-pub heard-view : (k : Fragment) (v : View) (pools : List (Pool Bytes)) → pools ≡ after_kept (packets_of v.station) v.pools k
-    → record { station = v.station; pools = pools } ≡ view_after k v
-heard-view k v pools e = ap (λ p. record { station = v.station; pools = p }) e
+-- a view whose pools have changed
+pub changed-view : (change : Option Mac → List (Pool Bytes) → List (Pool Bytes)) (v : View) (pools : List (Pool Bytes)) → pools ≡ change v.station v.pools
+    → record { station = v.station; pools = pools } ≡ view_with change v
+changed-view change v pools e = ap (λ p. record { station = v.station; pools = p }) e
 
 station-by : (left : Left) (station : List ℕ) (m : Mac) (pools : List (Pool Bytes)) (same : Bool) → Decides same (m.0 ≡ station) → same ≡ true
     → pools ≡ left (heard_packet m.0) → pools ≡ left (heard_packet station)

@@ -1,27 +1,24 @@
 -- What is heard at records one after the other.
-use Rattle.std.proofs.Common.{◌≡◌, ℕ, ◌+◌, suc, ◌<◌, List, [], ◌∷◌, ◌++◌, length, take, map, fold, get_or, refl, sym, ap, ◌∙◌}
-use Rattle.std.proofs.lemmas.List.{map-append, take_more}
+use Rattle.std.proofs.Common.{◌≡◌, ℕ, suc, List, [], ◌∷◌, ◌++◌, length, map, fold, Option, refl, sym, ap, ◌∙◌}
+use Rattle.std.proofs.lemmas.List.{map-append}
 use Rattle.std.proofs.lemmas.List.Sums.{fold-append}
 use Rattle.efi_base.specs.declared.plain.Record.{Record}
+use Rattle.wire_ip4.specs.Packet.{Packet}
 use Rattle.ip_core.specs.Pools.{Pool}
 use Rattle.ip_core.specs.Bytes.{Bytes, bytes_kept}
 use Rattle.ip_core.specs.Datagrams.{event_datagrams, after_event}
+use Rattle.ip_core.specs.Frames.{event_of}
 use Rattle.ip_core.proofs.Standings.{datagrams-same}
 use Rattle.tap_core.specs.Openings.{Opening}
 use Rattle.tap_core.specs.Heard.{segment_at, segments_heard}
-use Rattle.tap_core.specs.Hearing.{event_heard, heard_at, heard_from, pools_from}
+use Rattle.tap_core.specs.Hearing.{event_heard, heard_at, heard_from, pools_by, pools_from}
 
 -- the pools after one record more
-pub pools-next : (o : Opening) (pools : List (Pool Bytes)) (records : List Record) (r : Record)
-    → pools_from o pools (records ++ r ∷ []) ≡ after_event bytes_kept (pools_from o pools records) (event_heard o r)
-pools-next o pools records r =
-    ap (fold (after_event bytes_kept) pools) (map-append (event_heard o) records (r ∷ []))
-    ∙ fold-append (after_event bytes_kept) pools (map (event_heard o) records) (event_heard o r ∷ [])
-
-pub pools-more : (o : Opening) (pools : List (Pool Bytes)) (records : List Record) (i : ℕ) (r : Record) → i < length records → r ≡ get_or records i r
-    → pools_from o pools (take (i + 1) records) ≡ after_event bytes_kept (pools_from o pools (take i records)) (event_heard o r)
-pools-more o pools records i r h e =
-    ap (pools_from o pools) (take_more records i r h ∙ ap (λ x. take i records ++ x ∷ []) (sym e)) ∙ pools-next o pools (take i records) r
+pub pools-next : (counts : List ℕ → Option Packet) (pools : List (Pool Bytes)) (records : List Record) (r : Record)
+    → pools_by counts pools (records ++ r ∷ []) ≡ after_event bytes_kept (pools_by counts pools records) (event_of counts r)
+pools-next counts pools records r =
+    ap (fold (after_event bytes_kept) pools) (map-append (event_of counts) records (r ∷ []))
+    ∙ fold-append (after_event bytes_kept) pools (map (event_of counts) records) (event_of counts r ∷ [])
 
 heard-append : (o : Opening) (pools : List (Pool Bytes)) (before after : List Record)
     → heard_from o pools (before ++ after) ≡ heard_from o pools before ++ heard_from o (pools_from o pools before) after

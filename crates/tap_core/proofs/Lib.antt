@@ -3,6 +3,7 @@ pub mod Counts
 pub mod HeardLaws
 pub mod Honest
 pub mod Kept
+pub mod Lost
 pub mod OneEnd
 pub mod OneThing
 pub mod Records

@@ -1,7 +1,6 @@
 -- What records ask for that are looked at one after the other, by the pools of octets that the code keeps.
 use Rattle.std.proofs.Common.{◌≡◌, ℕ, suc, ◌<◌, List, [], ◌∷◌, ◌++◌, length, map, fold, Option, Some, None, All, refl, sym, ap, subst, ◌∙◌, arith}
-use Rattle.std.proofs.lemmas.List.{map-append, append_assoc, length-append}
-use Rattle.std.proofs.lemmas.List.Sums.{fold-append}
+use Rattle.std.proofs.lemmas.List.{append_assoc, length-append}
 use Rattle.std.proofs.lemmas.List.Elements.{All-append, All-cons, All-nil}
 use Rattle.efi_base.specs.declared.plain.Record.{Record}
 use Rattle.ip_core.specs.Pools.{Pool}
@@ -12,13 +11,6 @@ use Rattle.ip_core.proofs.Standings.{datagrams-same}
 use Rattle.tap_core.specs.Frames.{any_packet}
 use Rattle.tap_core.specs.Hearing.{pools_sent}
 use Rattle.tap_core.specs.Openings.{Opening, opening_at, openings_with, openings_of, IsFirstAt}
-
--- the pools after one record more
-pub sent-next : (records : List Record) (r : Record)
-    → pools_sent (records ++ r ∷ []) ≡ after_event bytes_kept (pools_sent records) (event_of any_packet r)
-sent-next records r =
-    ap (fold (after_event bytes_kept) []) (map-append (event_of any_packet) records (r ∷ []))
-    ∙ fold-append (after_event bytes_kept) [] (map (event_of any_packet) records) (event_of any_packet r ∷ [])
 
 -- what is asked for at each of the records, with these pools before them
 abbrev asked_from : List (Pool Bytes) → List Record → List (Option Opening)

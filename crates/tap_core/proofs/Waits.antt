@@ -1,11 +1,9 @@
 -- What holds of the pools that are left, and of the fragments that wait.
-use Rattle.std.proofs.Common.{◌≡◌, ℕ, ◌<◌, ◌≤◌, ◌==◌, max, Bool, true, false, ◌&&◌, ◌||◌, List, [], ◌∷◌, ◌++◌, map, fold, get_or, length, drop, All, Option, refl, sym, ap, subst, ◌∙◌, inl, inr, arith}
-use Rattle.std.specs.List.{list_any}
-use Rattle.std.proofs.Math.Nat.{max-eq_left, max-eq_right, le-max_left, le-max_right}
-use Rattle.std.proofs.lemmas.Bool.{cases_lt, eq-eqb, false≢true}
-use Rattle.std.proofs.lemmas.List.{map-append}
-use Rattle.std.proofs.lemmas.List.Elements.{All-head, All-tail, All-cons, All-append, All-nil}
-use Rattle.std.proofs.lemmas.List.Folds.{list_any-append}
+use Rattle.std.proofs.Common.{◌≡◌, ℕ, ◌<◌, ◌≤◌, max, Bool, true, false, List, [], ◌∷◌, ◌++◌, map, fold, get_or, length, drop, All, Option, refl, sym, ap, subst, ◌∙◌, arith, if◌then◌else◌}
+use Rattle.std.proofs.Math.Nat.{max-eq_left, le-max_left, le-max_right}
+use Rattle.std.proofs.lemmas.Bool.{false≢true, true≢false}
+use Rattle.std.proofs.lemmas.List.{append-nil, append_assoc, map-append}
+use Rattle.std.proofs.lemmas.List.Elements.{All-head, All-tail, All-cons, All-append, All-nil, filter-append}
 use Rattle.std.proofs.lemmas.List.Sums.{fold-append}
 use Rattle.efi_base.specs.declared.plain.Record.{Record}
 use Rattle.wire_ip4.specs.Packet.{Packet}
@@ -16,16 +14,9 @@ use Rattle.ip_core.specs.Frames.{event_of}
 use Rattle.tap_core.specs.declared.early.Early.{Early}
 use Rattle.tap_core.specs.declared.fragments.Fragment.{Fragment}
 use Rattle.tap_core.specs.declared.fragments.Fragments.{Fragments}
-use Rattle.tap_core.specs.Early.{after_kept, holds_fragment, left_by, pools_behind, IsKept, IsTickOf, Keeps, Left, OpenedBy}
+use Rattle.tap_core.specs.Early.{after_kept, fragments_of, holds_fragment, latest_after, latest_at, latest_of, pools_behind, AreLast, IsKept, Keeps, Left, OpenedBy}
 use Rattle.tap_core.specs.Frames.{heard_packet}
 use Rattle.tap_core.proofs.Kept.{event-same, open-open}
-
--- what one record more leaves
-pub left-next : (records : List Record) (r : Record) (counts : List ℕ → Option Packet)
-    → left_by (records ++ r ∷ []) counts ≡ after_event bytes_kept (left_by records counts) (event_of counts r)
-left-next records r counts =
-    ap (fold (after_event bytes_kept) []) (map-append (event_of counts) records (r ∷ []))
-    ∙ fold-append (after_event bytes_kept) [] (map (event_of counts) records) (event_of counts r ∷ [])
 
 -- a record sees the pools that are open at its tick
 pub event-open : (pools : List (Pool Bytes)) (r : Record) (counts : List ℕ → Option Packet)
@@ -65,7 +56,7 @@ kept-one m kept now k items here all =
     (All-append (IsKept n) kept (k ∷ []) (kept-later m n kept (le-max_left m k.record.tick.0) all)
     (All-cons (IsKept n) k [] (record { by = le-max_right m k.record.tick.0; holding = here }) (All-nil (IsKept n))))
 
-first-of : (kept : List Fragment) (k : Fragment) → 0 < length kept → k ≡ get_or kept 0 k → kept ≡ k ∷ drop 1 kept
+pub first-of : (kept : List Fragment) (k : Fragment) → 0 < length kept → k ≡ get_or kept 0 k → kept ≡ k ∷ drop 1 kept
 first-of [] k l e = absurd (omega (arith, l))
 first-of (x ∷ kept) k l e = ap (λ y. y ∷ kept) (sym e)
 
@@ -89,36 +80,55 @@ behind-ticked counts f k pools m l e h =
     ∙ ap (λ ps. open_at f.passed.0 (fold (after_kept counts) ps rest)) (kept-ticked counts k pools m h)
     ∙ ap (λ xs. open_at f.passed.0 (fold (after_kept counts) pools xs)) (sym items)
 
-or-more : (x y : Bool) → x ≡ true → (x || y) ≡ true
-or-more true y h = refl
-or-more false y h = absurd (false≢true h)
+-- the latest tick after one record more
+pub latest-next : (records : List Record) (r : Record) → latest_of (records ++ r ∷ []) ≡ latest_after (latest_of records) r
+latest-next records r = fold-append latest_after 0 records (r ∷ [])
 
-abbrev has-tick : List Record → ℕ → Bool
-has-tick records tick = list_any (λ (r : Record). holds_fragment r.frame && (r.tick.0 == tick)) records
+pub latest-fragment : (latest : ℕ) (r : Record) → holds_fragment r.frame ≡ true → max (latest_at r.tick.0 latest) r.tick.0 ≡ latest_after latest r
+latest-fragment latest r here = rw here refl
 
-pub tick-more : (records more : List Record) (tick : ℕ) → IsTickOf records tick → IsTickOf (records ++ more) tick
-tick-more records more tick t = elim t [
-  | inl none ↦ inl none
-  | inr some ↦ inr (list_any-append (λ (r : Record). holds_fragment r.frame && (r.tick.0 == tick)) records more ∙ or-more (has-tick records tick) (has-tick more tick) some)
-]
+pub latest-other : (latest : ℕ) (r : Record) → holds_fragment r.frame ≡ false → latest_at r.tick.0 latest ≡ latest_after latest r
+latest-other latest r none = rw none refl
 
-or-last : (x y : Bool) → y ≡ true → (x || (y || false)) ≡ true
-or-last true y h = refl
-or-last false true h = refl
-or-last false false h = h
+if-here : (r : Record) (here : Bool) → here ≡ true → (if here then r ∷ [] else []) ≡ r ∷ []
+if-here r true h = refl
+if-here r false h = absurd (false≢true h)
 
-and-both : (x y : Bool) → x ≡ true → y ≡ true → (x && y) ≡ true
-and-both true y h k = k
-and-both false y h k = h
+if-none : (r : Record) (here : Bool) → here ≡ false → (if here then r ∷ [] else []) ≡ []
+if-none r true h = absurd (true≢false h)
+if-none r false h = refl
 
-tick-here : (records : List Record) (r : Record) → holds_fragment r.frame ≡ true → IsTickOf (records ++ r ∷ []) r.tick.0
-tick-here records r here =
-    inr (list_any-append (λ (q : Record). holds_fragment q.frame && (q.tick.0 == r.tick.0)) records (r ∷ [])
-    ∙ or-last (has-tick records r.tick.0) (holds_fragment r.frame && (r.tick.0 == r.tick.0)) (and-both (holds_fragment r.frame) (r.tick.0 == r.tick.0) here (eq-eqb r.tick.0 r.tick.0 refl)))
+-- the fragments, with one more
+pub fragments-next : (records : List Record) (r : Record) → holds_fragment r.frame ≡ true → fragments_of records ++ r ∷ [] ≡ fragments_of (records ++ r ∷ [])
+fragments-next records r here =
+    ap (λ l. fragments_of records ++ l) (sym (if-here r (holds_fragment r.frame) here)) ∙ sym (filter-append (λ (q : Record). holds_fragment q.frame) records (r ∷ []))
 
--- the greatest tick with one fragment more
-pub tick-next : (records : List Record) (r : Record) (tick : ℕ) → holds_fragment r.frame ≡ true → IsTickOf records tick → IsTickOf (records ++ r ∷ []) (max tick r.tick.0)
-tick-next records r tick here t = elim (cases_lt tick r.tick.0) [
-  | inl l ↦ subst (IsTickOf (records ++ r ∷ [])) (sym (max-eq_right (omega (arith, l)))) (tick-here records r here)
-  | inr h ↦ subst (IsTickOf (records ++ r ∷ [])) (sym (max-eq_left h)) (tick-more records (r ∷ []) tick t)
-]
+-- and with another record
+pub fragments-same : (records : List Record) (r : Record) → holds_fragment r.frame ≡ false → fragments_of records ≡ fragments_of (records ++ r ∷ [])
+fragments-same records r none =
+    sym (append-nil (fragments_of records)) ∙ ap (λ l. fragments_of records ++ l) (sym (if-none r (holds_fragment r.frame) none))
+    ∙ sym (filter-append (λ (q : Record). holds_fragment q.frame) records (r ∷ []))
+
+-- one more waits, the last
+pub last-kept : (fragments : List Record) (waiting now : List Fragment) (k : Fragment) → now ≡ waiting ++ k ∷ [] → AreLast fragments waiting
+    → AreLast (fragments ++ k.record ∷ []) now
+last-kept fragments waiting now k items l = record {
+  front = l.front;
+  parts = ap (λ f. f ++ k.record ∷ []) l.parts ∙ append_assoc l.front (map (λ (f : Fragment). f.record) waiting) (k.record ∷ [])
+      ∙ ap (λ m. l.front ++ m) (sym (ap (map (λ (f : Fragment). f.record)) items ∙ map-append (λ (f : Fragment). f.record) waiting (k ∷ [])));
+}
+
+-- the first waits no longer
+pub last-left : (fragments : List Record) (waiting rest : List Fragment) (k : Fragment) → waiting ≡ k ∷ rest → AreLast fragments waiting → AreLast fragments rest
+last-left fragments waiting rest k items l = record {
+  front = l.front ++ k.record ∷ [];
+  parts = l.parts ∙ ap (λ w. l.front ++ map (λ (f : Fragment). f.record) w) items
+      ∙ sym (append_assoc l.front (k.record ∷ []) (map (λ (f : Fragment). f.record) rest));
+}
+
+-- none waits
+pub last-none : (fragments : List Record) (waiting : List Fragment) → waiting ≡ [] → AreLast fragments waiting
+last-none fragments waiting none = record {
+  front = fragments;
+  parts = sym (ap (λ w. fragments ++ map (λ (f : Fragment). f.record) w) none ∙ append-nil fragments);
+}

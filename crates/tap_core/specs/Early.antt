@@ -1,13 +1,13 @@
 -- What is kept of the records in front of the segment that asks for a connection, while no station is known: the pools that
 -- fragments left open, for each station that sent some of them, and for all others, who heard the same.
-use Rattle.std.specs.Prelude.{◌≡◌, ◌⊎◌, ℕ, ◌-◌, ◌≤◌, ◌<◌, ◌==◌, Bool, true, false, ◌&&◌, List, [], map, fold, All, Option, Some, None}
+use Rattle.std.specs.Prelude.{◌≡◌, ◌⊎◌, ℕ, ◌-◌, ◌≤◌, ◌<◌, max, nat_lt, Bool, true, false, List, [], ◌++◌, filter, map, fold, All, Option, Some, None, if◌then◌else◌}
 use Rattle.std.specs.List.{list_any}
 use Rattle.std.specs.Option.{option_map_or}
 use Rattle.std.specs.Str.{bytes_eq}
 use Rattle.efi_base.specs.declared.plain.Mac.{Mac}
 use Rattle.efi_base.specs.declared.plain.Record.{Record}
 use Rattle.wire_ip4.specs.Packet.{Packet, packet_of, is_fragment}
-use Rattle.ip_core.specs.Pools.{Pool, lifetime, open_at}
+use Rattle.ip_core.specs.Pools.{Pool, is_dropped, lifetime, open_at}
 use Rattle.ip_core.specs.Bytes.{Bytes, bytes_kept}
 use Rattle.ip_core.specs.Datagrams.{after_event}
 use Rattle.ip_core.specs.Frames.{event_of, packet_in_frame}
@@ -16,6 +16,7 @@ use Rattle.tap_core.specs.declared.fragments.Fragment.{Fragment}
 use Rattle.tap_core.specs.declared.fragments.Fragments.{Fragments}
 use Rattle.tap_core.specs.declared.views.View.{View}
 use Rattle.tap_core.specs.Frames.{heard_packet, is_sent}
+use Rattle.tap_core.specs.Hearing.{pools_by}
 use Rattle.tap_core.specs.Shown.{last_tick}
 
 -- the frame holds a fragment, whose header has a right checksum: each station may hear it that didn't send it
@@ -33,7 +34,7 @@ Left = (List ℕ → Option Packet) → List (Pool Bytes)
 
 -- those that records leave
 abbrev pub left_by : List Record → Left
-left_by records counts = fold (after_event bytes_kept) [] (map (event_of counts) records)
+left_by records counts = pools_by counts [] records
 
 -- the pools after a fragment, where these packets are heard: the tick that passed in front of it closes old ones, and then the
 -- fragment is taken in
@@ -56,13 +57,17 @@ has_view station views = list_any (is_view_of station) views
 abbrev pub IsLeft : Left → View → Type 0
 IsLeft left v = v.pools ≡ left (packets_of v.station)
 
--- a view after a fragment, which its station hears, or one that sent none
+-- a view whose pools have changed, by whose they are
+abbrev pub view_with : (Option Mac → List (Pool Bytes) → List (Pool Bytes)) → View → View
+view_with change v = record { station = v.station; pools = change v.station v.pools }
+
+-- a view after a fragment, which its station hears unless it sent it
 abbrev pub view_after : Fragment → View → View
-view_after f v = record { station = v.station; pools = after_kept (packets_of v.station) v.pools f }
+view_after f = view_with (λ station pools. after_kept (packets_of station) pools f)
 
 -- a view after a tick
 abbrev pub view_at : ℕ → View → View
-view_at now v = record { station = v.station; pools = open_at now v.pools }
+view_at now = view_with (λ station pools. open_at now pools)
 
 -- The pools of the others are those that are left to one that sent none of the fragments, each view has what is left to its
 -- station, and whoever has no view is left what the others are.
@@ -74,6 +79,18 @@ pub record AreLeft (left : Left) (others : List (Pool Bytes)) (views : List View
 -- this station didn't send the record
 abbrev pub IsNotFrom : List ℕ → Record → Type 0
 IsNotFrom station r = is_sent station r.frame ≡ false
+
+-- the greater of a fragment's tick and the one that passed in front of it
+abbrev pub latest_tick : Fragment → ℕ
+latest_tick f = max f.passed.0 f.record.tick.0
+
+-- a fragment does no more to these pools than its ticks: it is dropped
+abbrev pub is_lost : Fragment → List (Pool Bytes) → Bool
+is_lost f pools = option_map_or (λ p. is_dropped p (open_at (latest_tick f) pools)) (packet_in_frame packet_of f.record.frame) false
+
+-- whoever has no view is left the same by a fragment as the others are: it didn't send it, or the others lose it
+abbrev pub AreAlike : Fragment → List (Pool Bytes) → List View → Type 0
+AreAlike f others views = (station : List ℕ) → has_view station views ≡ false → after_kept (heard_packet station) others f ≡ after_kept (packets_of None) others f
 
 -- a pool that opened no later than a tick
 abbrev pub OpenedBy : ℕ → Pool Bytes → Type 0
@@ -94,18 +111,36 @@ pub record Keeps (left : Left) (e : Early) : Type 0 where
   pub opened : (counts : List ℕ → Option Packet) → All (OpenedBy e.latest.0) (front counts)
   pub kept : All (IsKept e.latest.0) e.waiting.kept.items
 
--- 0, or the tick of a fragment among the records
-abbrev pub IsTickOf : List Record → ℕ → Type 0
-IsTickOf records tick = (tick ≡ 0) ⊎ (list_any (λ r. holds_fragment r.frame && (r.tick.0 == tick)) records ≡ true)
+-- what is left of the latest tick at this one: 0 where a pool is over that opened at it
+abbrev pub latest_at : ℕ → ℕ → ℕ
+latest_at now latest = if nat_lt (now - latest) lifetime then latest else 0
+
+-- the latest tick after a record
+abbrev pub latest_after : ℕ → Record → ℕ
+latest_after latest r = let passed = latest_at r.tick.0 latest in if holds_fragment r.frame then max passed r.tick.0 else passed
+
+-- the greatest tick of a fragment since all pools were over, or 0 where there was none
+abbrev pub latest_of : List Record → ℕ
+latest_of records = fold latest_after 0 records
 
 -- none waits, or a pool that opened at the latest tick isn't over at this one
 abbrev pub AreRecent : ℕ → Early → Type 0
 AreRecent now e = (e.waiting.kept.items ≡ []) ⊎ (now - e.latest.0 < lifetime)
 
--- Whoever is the station, what is kept leaves the pools that the records leave. No record waits but fragments, and none of them
--- where, at the last record's tick, a pool is over that opened at the greatest tick of a fragment since all pools were over, or at 0
+-- the records that hold fragments
+abbrev pub fragments_of : List Record → List Record
+fragments_of records = filter (λ r. holds_fragment r.frame) records
+
+-- fragments that wait are the last of these, in order: those in front of them were heard, or their time is over
+pub record AreLast (fragments : List Record) (waiting : List Fragment) : Type 0 where
+  pub front : List Record
+  pub parts : fragments ≡ front ++ map (λ k. k.record) waiting
+
+-- Whoever is the station, what is kept leaves the pools that the records leave. No record waits but the last fragments, and none of
+-- them where, at the last record's tick, a pool is over that opened at the greatest tick of a fragment since all pools were over, or at 0
 -- where there was none.
 pub record KeepsFragments (records : List Record) (e : Early) : Type 0 where
   pub keeps : Keeps (left_by records) e
-  pub latest : IsTickOf records e.latest.0
+  pub last : AreLast (fragments_of records) e.waiting.kept.items
+  pub latest : e.latest.0 ≡ latest_of records
   pub recent : AreRecent (last_tick records) e

@@ -1,6 +1,7 @@
 -- What is heard at the next records, with pools of octets that the records before them left open.
-use Rattle.std.specs.Prelude.{List, [], ◌∷◌, map, fold, Option}
+use Rattle.std.specs.Prelude.{ℕ, List, [], ◌∷◌, map, fold, Option}
 use Rattle.efi_base.specs.declared.plain.Record.{Record}
+use Rattle.wire_ip4.specs.Packet.{Packet}
 use Rattle.wire_l4.specs.Segment.{Segment}
 use Rattle.ip_core.specs.Pools.{Pool}
 use Rattle.ip_core.specs.Bytes.{Bytes, bytes_kept}
@@ -23,10 +24,14 @@ abbrev pub heard_from : Opening → List (Pool Bytes) → List Record → List (
 heard_from o pools [] = []
 heard_from o pools (r ∷ records) = heard_at o pools r ∷ heard_from o (after_event bytes_kept pools (event_heard o r)) records
 
--- the pools behind the records
-abbrev pub pools_from : Opening → List (Pool Bytes) → List Record → List (Pool Bytes)
-pools_from o pools records = fold (after_event bytes_kept) pools (map (event_heard o) records)
+-- the pools behind the records, by the packets that count
+abbrev pub pools_by : (List ℕ → Option Packet) → List (Pool Bytes) → List Record → List (Pool Bytes)
+pools_by counts pools records = fold (after_event bytes_kept) pools (map (event_of counts) records)
 
--- the pools behind the records, whoever sent them
+-- by those that are heard
+abbrev pub pools_from : Opening → List (Pool Bytes) → List Record → List (Pool Bytes)
+pools_from o pools records = pools_by (heard_packet o.station) pools records
+
+-- by all, whoever sent them
 abbrev pub pools_sent : List Record → List (Pool Bytes)
-pools_sent records = fold (after_event bytes_kept) [] (map (event_of any_packet) records)
+pools_sent records = pools_by any_packet [] records

@@ -8,10 +8,10 @@ ghost use Rattle.ip_core.specs.Bytes.{bytes_kept};
 ghost use Rattle.ip_core.specs.Datagrams.{after_event};
 ghost use Rattle.ip_core.specs.Frames.{event_of};
 ghost use Rattle.ip_core.specs.Pools.{open_at};
-ghost use Rattle.tap_core.specs.Early.{AreRecent, IsTickOf, Keeps, KeepsFragments, Left, holds_fragment, left_by};
+ghost use Rattle.tap_core.specs.Early.{AreLast, AreRecent, Keeps, KeepsFragments, Left, holds_fragment, latest_at, left_by};
 ghost use Rattle.tap_core.specs.Frames.{heard_packet};
 
-use crate::fragments::Fragments;
+use crate::fragments::{Fragments, octets_of};
 use crate::packets::holds_fragment;
 use crate::views::Views;
 use efi_base::{Mac, NoMemory, Record, Tick};
@@ -19,10 +19,7 @@ use ip_core::{LIFETIME, Reasm};
 use std::alloc::Global;
 
 /// How many octets of memory fragments take for each pool that is compared to take views from stations: it takes time.
-const PRICE: usize = 2_048;
-
-/// How many octets of memory a fragment takes beside its frame, roughly.
-const BESIDE: usize = 64;
+const PRICE: usize = 512;
 
 /// The pools that fragments left open to each station, and fragments that wait to be heard. The latest tick is the greatest of a
 /// fragment's since all pools were over. `budget` is how many octets of memory fragments took, less what was paid for comparing.
@@ -71,7 +68,8 @@ impl Early {
     /// A tick passes. Where each pool is over that a fragment can have opened, none waits any longer.
     fn pass(&mut self, now: Tick)
         ensures keeps { (left : Left) → Keeps left self.old → Keeps (λ counts. open_at now.0 (left counts)) self.new }
-        ensures latest { (records : List Record) → IsTickOf records self.old.latest.0 → IsTickOf records self.new.latest.0 }
+        ensures last { (fragments : List Record) → AreLast fragments self.old.waiting.kept.items → AreLast fragments self.new.waiting.kept.items }
+        ensures latest { self.new.latest.0 ≡ latest_at now.0 self.old.latest.0 }
         ensures recent { AreRecent now.0 self.new }
     {
         if now.0.saturating_sub(self.latest.0) < LIFETIME {
@@ -87,6 +85,8 @@ impl Early {
     fn keep(&mut self, record: Record) -> Result<(), NoMemory>
         ensures keeps { (left : Left) → Keeps left self.old → holds_fragment «record».frame ≡ true
             → OnOk result (Keeps (λ counts. after_event bytes_kept (left counts) (event_of counts «record»)) self.new) }
+        ensures last { (fragments : List Record) → AreLast fragments self.old.waiting.kept.items
+            → OnOk result (AreLast (fragments ++ «record» ∷ []) self.new.waiting.kept.items) }
         ensures latest { OnOk result (self.new.latest.0 ≡ max self.old.latest.0 «record».tick.0) }
     {
         let tick = record.tick;
@@ -99,27 +99,30 @@ impl Early {
     /// Hears those that wait, the first one first, as far as there are views for their senders.
     fn settle(&mut self, alloc: Global)
         ensures keeps { (left : Left) → Keeps left self.old → Keeps left self.new }
+        ensures last { (fragments : List Record) → AreLast fragments self.old.waiting.kept.items → AreLast fragments self.new.waiting.kept.items }
         ensures latest { self.new.latest ≡ self.old.latest }
     {
         while self.hear_next(alloc) || self.free_views() {}
     }
 
-    /// Hears the first that waits, if there is a view for its sender, and answers whether it was heard.
+    /// Hears the first that waits, where all can be told apart that it leaves different pools, and answers whether it was heard.
     fn hear_next(&mut self, alloc: Global) -> bool
         ensures keeps { (left : Left) → Keeps left self.old → Keeps left self.new }
+        ensures last { (fragments : List Record) → AreLast fragments self.old.waiting.kept.items → AreLast fragments self.new.waiting.kept.items }
         ensures latest { self.new.latest ≡ self.old.latest }
         ensures budget { self.new.budget ≡ self.old.budget }
         ensures fewer { result ≡ true → deque_len self.new.waiting.kept < deque_len self.old.waiting.kept }
         ensures same { result ≡ false → deque_len self.new.waiting.kept ≡ deque_len self.old.waiting.kept }
     {
+        let octets = self.waiting.octets();
         let Some(fragment) = self.waiting.kept.front() else {
             return false;
         };
-        if !self.views.make_room(alloc, &fragment.record) {
+        if !self.views.make_room(alloc, fragment, octets) {
             return false;
         }
         self.views.hear(fragment);
-        let _ = self.waiting.kept.pop_front();
+        self.waiting.leave();
         true
     }
 
@@ -140,13 +143,7 @@ impl Early {
             return false;
         }
         self.budget -= price;
-        self.views
-            .tick(Tick(first.passed.0.max(first.record.tick.0)));
+        self.views.tick(first.tick());
         self.views.release()
     }
-}
-
-/// How many octets of memory a fragment takes.
-fn octets_of(record: &Record) -> usize {
-    record.frame.len().saturating_add(BESIDE)
 }

@@ -1,12 +1,12 @@
 //! Fragments that wait to be heard, and what they do to the pools of a station. Why they wait isn't here.
-ghost use Rattle.std.specs.Prelude.{◌≡◌, ◌∷◌, ◌++◌, [], List, ℕ, Option, OnOk};
+ghost use Rattle.std.specs.Prelude.{◌≡◌, ◌∷◌, ◌++◌, [], drop, List, ℕ, Option, OnOk};
 ghost use Rattle.efi_base.specs.declared.plain.Record.{Record};
 ghost use Rattle.wire_ip4.specs.Packet.{Packet};
 ghost use Rattle.ip_core.specs.Bytes.{Bytes, bytes_kept};
 ghost use Rattle.ip_core.specs.Datagrams.{after_event};
 ghost use Rattle.ip_core.specs.Frames.{event_of};
 ghost use Rattle.ip_core.specs.Pools.{Pool, open_at};
-ghost use Rattle.tap_core.specs.Early.{after_kept, packets_of, pools_behind};
+ghost use Rattle.tap_core.specs.Early.{after_kept, latest_tick, packets_of, pools_behind};
 ghost use Rattle.tap_core.specs.Frames.{heard_packet};
 
 use crate::packets::read_packet;
@@ -15,6 +15,9 @@ use ip_core::Reasm;
 use std::alloc::Global;
 use std::collections::VecDeque;
 
+/// How many octets of memory a fragment takes beside its frame, roughly.
+const BESIDE: usize = 64;
+
 /// A fragment, and the greatest tick that passed since the one before it, 0 where none did.
 #[derive(Drop)]
 pub struct Fragment {
@@ -22,14 +25,23 @@ pub struct Fragment {
     pub record: Record,
 }
 
-/// Fragments in order, and the greatest tick that passed since the last one came, 0 where none did.
+/// Fragments in order, the greatest tick that passed since the last one came, 0 where none did, and how many octets of memory
+/// they take.
 #[derive(Drop)]
 pub struct Fragments {
     pub kept: VecDeque<Fragment>,
     pub passed: Tick,
+    octets: usize,
 }
 
 impl Fragment {
+    /// The greater of its tick and the one that passed in front of it.
+    pub fn tick(&self) -> Tick
+        ensures { result.0 ≡ latest_tick self.now }
+    {
+        Tick(self.passed.0.max(self.record.tick.0))
+    }
+
     /// What it does to the pools of a station, or of one that sent none of the fragments. Nothing is wanted of a datagram that
     /// it makes whole.
     pub fn hear(&self, station: Option<Mac>, pools: &mut Reasm)
@@ -54,6 +66,7 @@ impl Fragments {
         Fragments {
             kept: VecDeque::new(alloc),
             passed: Tick(0),
+            octets: 0,
         }
     }
 
@@ -72,9 +85,27 @@ impl Fragments {
         ensures kept { OnOk result (self.new.kept.items ≡ self.old.kept.items ++ record { passed = self.old.passed; «record» = «record» } ∷ []) }
     {
         let passed = self.passed;
+        let octets = octets_of(&record);
         self.kept.push_back(Fragment { passed, record })?;
         self.passed = Tick(0);
+        self.octets = self.octets.saturating_add(octets);
         Ok(())
+    }
+
+    /// The first one waits no longer.
+    pub fn leave(&mut self)
+        ensures kept { self.new.kept.items ≡ drop 1 self.old.kept.items }
+        ensures passed { self.new.passed ≡ self.old.passed }
+    {
+        if let Some(first) = self.kept.pop_front() {
+            let octets = octets_of(&first.record);
+            self.octets = self.octets.saturating_sub(octets);
+        }
+    }
+
+    /// How many octets of memory they take, roughly.
+    pub fn octets(&self) -> usize {
+        self.octets
     }
 
     /// Forgets them all.
@@ -84,6 +115,7 @@ impl Fragments {
     {
         self.kept.clear();
         self.passed = Tick(0);
+        self.octets = 0;
     }
 
     /// What they do to a station's pools.
@@ -95,4 +127,9 @@ impl Fragments {
         }
         pools.tick(self.passed);
     }
+}
+
+/// How many octets of memory a fragment takes, roughly.
+pub fn octets_of(record: &Record) -> usize {
+    record.frame.len().saturating_add(BESIDE)
 }

@@ -352,12 +352,12 @@ fn padded_record(alloc: Global, frame: &str, behind: usize) -> Result<Record, Fa
     })
 }
 
-/// The same from a sender of this number, which is added to the datagram's identification where it has one of its own.
+/// The same from a sender of this number, with so much added to the datagram's identification.
 fn record_from(
     alloc: Global,
     frame: &str,
     sender: u8,
-    own: bool,
+    datagram: u8,
     behind: usize,
 ) -> Result<Record, Fail> {
     let mut octets = padded_record(alloc, frame, behind)?.frame.into_vec();
@@ -365,8 +365,8 @@ fn record_from(
         match place {
             10 => *octet = 1,
             11 => *octet = sender,
-            19 if own => *octet = octet.wrapping_add(sender),
-            25 if own => *octet = octet.wrapping_sub(sender),
+            19 => *octet = octet.wrapping_add(datagram),
+            25 => *octet = octet.wrapping_sub(datagram),
             _ => {}
         }
     }
@@ -419,43 +419,68 @@ fn hears_fragments_of_each_sender(rt: HostRuntime) -> Result<(), Fail> {
     Ok(())
 }
 
-/// From how many senders the answer's first fragment comes, whether each has a datagram of its own, and how many octets are
-/// behind its packet; the answer's fragment that comes last, from one sender more; how many wait then, and how it ends.
-type Senders<'a> = (u8, bool, usize, &'a str, usize, End);
+/// From how many senders the answer's first fragment comes, whether each has a datagram of its own; the answer's fragment that
+/// comes last, from one sender more; how many wait then, and how it ends.
+type Senders<'a> = (u8, bool, &'a str, usize, End);
 
-const SENDERS: [Senders; 6] = [
-    (31, true, 0, ACCEPT_FRONT, 0, End::OutOfTime),
+const SENDERS: [Senders; 5] = [
+    (15, true, ACCEPT_FRONT, 0, End::OutOfTime),
     // all datagrams are one
-    (60, false, 0, ACCEPT_FRONT, 0, End::OutOfTime),
-    (60, false, 0, ACCEPT_REST, 0, End::NoConnection),
-    // to all others 16 datagrams are open, and too few octets come to compare so many
-    (60, true, 0, ACCEPT_FRONT, 29, End::OutOfTime),
-    (60, true, 0, ACCEPT_REST, 29, End::NoConnection),
-    (60, true, 65_536, ACCEPT_REST, 0, End::NoConnection),
+    (60, false, ACCEPT_FRONT, 0, End::OutOfTime),
+    (60, false, ACCEPT_REST, 0, End::NoConnection),
+    // to all others 16 datagrams are open, and they lose the rest, but the last fragment, which is of an open one
+    (60, true, ACCEPT_FRONT, 1, End::OutOfTime),
+    (60, true, ACCEPT_REST, 1, End::NoConnection),
 ];
 
 #[test]
 fn hears_fragments_of_many_senders(rt: HostRuntime) -> Result<(), Fail> {
     let alloc = rt.alloc();
-    for (senders, own, behind, last, waiting, end) in &SENDERS {
+    for (senders, own, last, waiting, end) in &SENDERS {
         let mut tap = Tap::new(alloc, 1).expect(&rt, "memory");
         let mut early = Early::new(alloc).expect(&rt, "memory");
-        for number in 0..*senders {
-            let record = record_from(alloc, ACCEPT_FRONT, number, *own, *behind)?;
+        for sender in 0..*senders {
+            let datagram = if *own { sender } else { 0 };
+            let record = record_from(alloc, ACCEPT_FRONT, sender, datagram, 0)?;
             both_hear(&rt, alloc, &mut tap, &mut early, record)?;
         }
-        let record = record_from(alloc, last, *senders, false, *behind)?;
+        let record = record_from(alloc, last, *senders, 0, 0)?;
         both_hear(&rt, alloc, &mut tap, &mut early, record)?;
-        assert_eq!(rt;
-            early.waiting.kept.len(),
-            *waiting,
-            "{senders} {own} {behind}"
-        );
-        assert_eq!(rt;
-            end_behind(&rt, alloc, tap)?,
-            *end,
-            "{senders} {own} {behind}"
-        );
+        assert_eq!(rt; early.waiting.kept.len(), *waiting, "{senders} {own}");
+        assert_eq!(rt; end_behind(&rt, alloc, tap)?, *end, "{senders} {own}");
+    }
+    Ok(())
+}
+
+/// From how many senders the last fragment of a datagram comes, whose first one came from another: it stays open to its sender
+/// alone. How many octets are behind each packet; the answer's fragment that comes last; how many wait then, and how it ends.
+type Closers<'a> = (u8, usize, &'a str, usize, End);
+
+const CLOSERS: [Closers; 5] = [
+    (15, 0, ACCEPT_FRONT, 0, End::OutOfTime),
+    (16, 0, ACCEPT_FRONT, 2, End::OutOfTime),
+    (40, 0, ACCEPT_FRONT, 50, End::OutOfTime),
+    (40, 0, ACCEPT_REST, 50, End::NoConnection),
+    // for each four that wait one station's pools more are kept apart
+    (40, 65_536, ACCEPT_FRONT, 34, End::OutOfTime),
+];
+
+#[test]
+fn hears_fragments_that_one_sender_misses(rt: HostRuntime) -> Result<(), Fail> {
+    let alloc = rt.alloc();
+    for (senders, behind, last, waiting, end) in &CLOSERS {
+        let mut tap = Tap::new(alloc, 1).expect(&rt, "memory");
+        let mut early = Early::new(alloc).expect(&rt, "memory");
+        for sender in 1..senders.saturating_add(1) {
+            let front = record_from(alloc, ACCEPT_FRONT, 0, sender, *behind)?;
+            both_hear(&rt, alloc, &mut tap, &mut early, front)?;
+            let rest = record_from(alloc, ACCEPT_REST, sender, sender, *behind)?;
+            both_hear(&rt, alloc, &mut tap, &mut early, rest)?;
+        }
+        let record = record_from(alloc, last, 0, 0, *behind)?;
+        both_hear(&rt, alloc, &mut tap, &mut early, record)?;
+        assert_eq!(rt; early.waiting.kept.len(), *waiting, "{senders} {behind}");
+        assert_eq!(rt; end_behind(&rt, alloc, tap)?, *end, "{senders} {behind}");
     }
     Ok(())
 }

@@ -6,18 +6,22 @@ ghost use Rattle.std.specs.Str.{bytes_eq};
 ghost use Rattle.efi_base.specs.declared.plain.Record.{Record};
 ghost use Rattle.ip_core.specs.Pools.{open_at};
 ghost use Rattle.tap_core.specs.declared.views.View.{View};
-ghost use Rattle.tap_core.specs.Early.{AreLeft, IsNotFrom, Left, after_kept, has_view, is_view_of, packets_of, view_after, view_at};
+ghost use Rattle.tap_core.specs.Early.{AreAlike, AreLeft, IsNotFrom, Left, after_kept, has_view, is_lost, is_view_of, packets_of, view_after, view_at};
 ghost use Rattle.tap_core.specs.Frames.{heard_packet};
 
 use crate::fragments::Fragment;
+use crate::packets::read_packet;
 use efi_base::{Mac, NoMemory, Record, Tick};
 use ip_core::{POOLS, Reasm};
 use std::alloc::Global;
 use wire_link::read_ether;
 
-/// How many stations' pools are kept apart: as many as there are pools for senders of datagrams that stay open, and as many for
-/// those whose datagrams come and go. Each view takes memory for all its pools, some 1.2 MB, of which 0.2 MB is used at once.
-const VIEWS: usize = 2 * POOLS;
+/// How many stations' pools may be kept apart, whatever waits: one for each pool, for the senders of datagrams that stay open.
+/// A view takes memory for all its pools, some 1.2 MB, of which 0.3 MB is used at once.
+const VIEWS: usize = POOLS;
+
+/// For how many octets that wait one more may be kept apart.
+const VIEW_OCTETS: usize = 262_144;
 
 /// The pools of a station that sent some of the fragments. A view of no station is spare: its pools are those of the others.
 #[derive(Drop)]
@@ -64,30 +68,49 @@ impl Views {
         tick_each(&mut self.apart, now);
     }
 
-    /// Each station hears a fragment that it didn't send. Its sender has a view.
+    /// Each station hears a fragment that it didn't send.
     pub fn hear(&mut self, fragment: &Fragment)
+        requires { AreAlike fragment.now self.old.others self.old.apart.items }
         ensures { (left : Left) → AreLeft left self.old.others self.old.apart.items
-            → ((station : List ℕ) → has_view station self.old.apart.items ≡ false → IsNotFrom station fragment.now.record)
             → AreLeft (λ counts. after_kept counts (left counts) fragment.now) self.new.others self.new.apart.items }
     {
         fragment.hear(None, &mut self.others);
         hear_each(&mut self.apart, fragment);
     }
 
+    /// Gives the sender of a fragment a view, if it has none and the others don't lose the fragment, while so many octets wait.
+    /// Answers whether all who have no view are left the same by the fragment then.
+    pub fn make_room(&mut self, alloc: Global, fragment: &Fragment, waiting: usize) -> bool
+        ensures left { (left : Left) → AreLeft left self.old.others self.old.apart.items → AreLeft left self.new.others self.new.apart.items }
+        ensures alike { result ≡ true → AreAlike fragment.now self.new.others self.new.apart.items }
+    {
+        self.lose(fragment) || self.know_sender(alloc, &fragment.record, waiting)
+    }
+
+    /// Whether the others lose a fragment: no pool of theirs takes it in.
+    fn lose(&self, fragment: &Fragment) -> bool
+        ensures { result ≡ is_lost fragment.now self.now.others }
+    {
+        match read_packet(None, fragment.record.frame.as_slice()) {
+            Some(packet) => self.others.drops(fragment.tick(), &packet),
+            None => false,
+        }
+    }
+
     /// Gives the sender of a record a view, if it has none, and answers whether it has one then. A frame too short for an
     /// Ethernet header has no sender, and needs none.
-    pub fn make_room(&mut self, alloc: Global, record: &Record) -> bool
+    fn know_sender(&mut self, alloc: Global, record: &Record, waiting: usize) -> bool
         ensures left { (left : Left) → AreLeft left self.old.others self.old.apart.items → AreLeft left self.new.others self.new.apart.items }
         ensures here { result ≡ true → (station : List ℕ) → has_view station self.new.apart.items ≡ false → IsNotFrom station «record».now }
     {
         match read_ether(record.frame.as_slice()) {
-            Ok(ether) => self.take_view(alloc, ether.src),
+            Ok(ether) => self.take_view(alloc, ether.src, waiting),
             Err(_) => true,
         }
     }
 
     /// Gives a station a view, if it has none, and answers whether it has one then.
-    fn take_view(&mut self, alloc: Global, station: Mac) -> bool
+    fn take_view(&mut self, alloc: Global, station: Mac, waiting: usize) -> bool
         ensures left { (left : Left) → AreLeft left self.old.others self.old.apart.items → AreLeft left self.new.others self.new.apart.items }
         ensures here { result ≡ true → (other : List ℕ) → has_view other self.new.apart.items ≡ false → bytes_eq station.0 other ≡ false }
     {
@@ -95,19 +118,19 @@ impl Views {
             return true;
         }
         let Some(place) = find_spare(&self.apart) else {
-            return self.open(alloc, station);
+            return self.open(alloc, station, waiting);
         };
         self.apart[place].station = Some(station);
         true
     }
 
     /// One view more, for a station that has none. Answers false where there are too many, or no memory.
-    fn open(&mut self, alloc: Global, station: Mac) -> bool
+    fn open(&mut self, alloc: Global, station: Mac, waiting: usize) -> bool
         ensures left { (left : Left) → AreLeft left self.old.others self.old.apart.items → has_view station.0 self.old.apart.items ≡ false
             → AreLeft left self.new.others self.new.apart.items }
         ensures here { result ≡ true → (other : List ℕ) → has_view other self.new.apart.items ≡ false → bytes_eq station.0 other ≡ false }
     {
-        if self.apart.len() >= VIEWS {
+        if self.apart.len() >= VIEWS.saturating_add(waiting / VIEW_OCTETS) {
             return false;
         }
         let Ok(pools) = self.others.try_clone(alloc) else {

@@ -4,6 +4,7 @@ use Rattle.ip_core.specs.Bytes.{bytes_kept}
 use Rattle.ip_core.specs.Datagrams.{after_event}
 use Rattle.tap_core.specs.Connections.{after_heard, is_reset_at}
 use Rattle.tap_core.specs.Following.{Follows}
+use Rattle.tap_core.specs.Frames.{heard_packet}
 use Rattle.tap_core.specs.Hearing.{event_heard, heard_at}
 use Rattle.tap_core.specs.Seen.{syn_seen}
 use Rattle.tap_core.proofs.HeardLaws.{pools-next}
@@ -23,6 +24,6 @@ returns-clause-listens c = λ records h.
     let o = syn_seen c.args.l.now.syn in
     let r = c.args.«record».now in
     record {
-      pools = c.take_in.ensures.pools ∙ ap (λ p. after_event bytes_kept p (event_heard o r)) h.pools ∙ sym (pools-next o [] records r);
+      pools = c.take_in.ensures.pools ∙ ap (λ p. after_event bytes_kept p (event_heard o r)) h.pools ∙ sym (pools-next (heard_packet o.station) [] records r);
       counts = c.in_ok-l.ensures o records refl h.counts;
     }

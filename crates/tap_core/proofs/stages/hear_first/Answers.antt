@@ -6,7 +6,8 @@ use Rattle.ip_core.specs.Frames.{event_of}
 use Rattle.tap_core.specs.Frames.{any_packet}
 use Rattle.tap_core.specs.Openings.{opening_at}
 use Rattle.tap_core.specs.Seen.{syn_seen}
-use Rattle.tap_core.proofs.Records.{sent-next, asked-none}
+use Rattle.tap_core.proofs.HeardLaws.{pools-next}
+use Rattle.tap_core.proofs.Records.{asked-none}
 use Rattle.tap_core.proofs.Steps.{answering-first}
 use Rattle.tap_core.proofs.stages.hear_first.Goals as goal
 
@@ -16,7 +17,7 @@ returns-in_default c = λ most records w.
     record {
       none = asked-none records r w.none (ap (λ p. opening_at r (event_datagram bytes_kept p (event_of any_packet r))) (sym w.pools)
           ∙ sym c.asked_at-asked.ensures.asked ∙ ap (option_map syn_seen) c.in_default.is);
-      pools = c.asked_at-asked.ensures.pools ∙ ap (λ p. after_event bytes_kept p (event_of any_packet r)) w.pools ∙ sym (sent-next records r);
+      pools = c.asked_at-asked.ensures.pools ∙ ap (λ p. after_event bytes_kept p (event_of any_packet r)) w.pools ∙ sym (pools-next any_packet [] records r);
       early = c.in_ok-hear.ensures records w.early;
       tally = c.in_ok-count.ensures records w.tally;
     }

@@ -1,10 +1,11 @@
 -- The first that waits is heard, where there is a view for its sender.
-use Rattle.std.proofs.Common.{◌≡◌, ◌∷◌, ◌++◌, ◌∙◌, fold, option_to_list, All, refl, sym, ap, subst}
+use Rattle.std.proofs.Common.{◌≡◌, ◌<◌, ◌∷◌, ◌∙◌, fold, length, All, refl, sym, ap, subst, arith}
 use Rattle.std.proofs.lemmas.List.Elements.{All-head, All-tail}
 use Rattle.ip_core.specs.Pools.{open_at}
 use Rattle.tap_core.specs.Early.{after_kept, IsKept}
 use Rattle.tap_core.specs.Frames.{heard_packet}
 use Rattle.tap_core.proofs.Kept.{kept-opened}
+use Rattle.tap_core.proofs.Waits.{first-of, last-left}
 use Rattle.tap_core.proofs.early.Early.hear_next.Goals as goal
 
 pub returns-then-not-make_room-clause-keeps : goal.returns-then-not-make_room-clause-keeps
@@ -20,18 +21,25 @@ pub returns-clause-keeps : goal.returns-clause-keeps
 returns-clause-keeps c = λ left k.
     let e = c.args.self.now in
     let f = c.in-Some.fragment.now in
-    let rest = c.pop_front.new.self.items in
-    let items : e.waiting.kept.items ≡ f ∷ rest =
-    c.pop_front.ensures.items ∙ ap (λ o. option_to_list o ++ rest) (c.pop_front.ensures.value f (c.in-Some.ensures.variant.0 refl))
-    ∙ ap (λ x. x ∷ rest) (sym c.in-Some.ensures.lookup)
-    in
+    let rest = c.leave.new.self.kept.items in
+    let some : 0 < length e.waiting.kept.items = omega (arith, c.in-Some.ensures.variant.0 refl, e.waiting.kept.ok.0) in
+    let items : e.waiting.kept.items ≡ f ∷ rest = first-of e.waiting.kept.items f some c.in-Some.ensures.lookup ∙ ap (λ l. f ∷ l) (sym c.leave.ensures.kept) in
     let kept : All (IsKept e.latest.0) (f ∷ rest) = subst (All (IsKept e.latest.0)) items k.kept in
     record {
       front = λ counts. after_kept counts (k.front counts) f;
-      views = c.hear.ensures k.front (c.make_room.ensures.left k.front k.views) (c.make_room.ensures.here c.if-not-make_room.false);
+      views = c.hear.ensures k.front (c.make_room.ensures.left k.front k.views);
       pools = λ station.
           let counts = heard_packet station in
-          ap (λ l. open_at e.waiting.passed.0 (fold (after_kept counts) (k.front counts) l)) (sym items) ∙ k.pools station;
+          ap (λ t. open_at t.0 (fold (after_kept counts) (k.front counts) (f ∷ rest))) c.leave.ensures.passed
+          ∙ ap (λ l. open_at e.waiting.passed.0 (fold (after_kept counts) (k.front counts) l)) (sym items) ∙ k.pools station;
       opened = λ counts. kept-opened counts e.latest.0 (k.front counts) f (All-head (IsKept e.latest.0) f rest kept) (k.opened counts);
       kept = All-tail (IsKept e.latest.0) f rest kept;
     }
+
+pub returns-clause-last : goal.returns-clause-last
+returns-clause-last c = λ fragments l.
+    let e = c.args.self.now in
+    let f = c.in-Some.fragment.now in
+    let rest = c.leave.new.self.kept.items in
+    let some : 0 < length e.waiting.kept.items = omega (arith, c.in-Some.ensures.variant.0 refl, e.waiting.kept.ok.0) in
+    last-left fragments e.waiting.kept.items rest f (first-of e.waiting.kept.items f some c.in-Some.ensures.lookup ∙ ap (λ l. f ∷ l) (sym c.leave.ensures.kept)) l

@@ -6,7 +6,7 @@ use Rattle.ip_core.specs.Datagrams.{after_event}
 use Rattle.ip_core.specs.Frames.{event_of}
 use Rattle.tap_core.specs.Early.{IsKept}
 use Rattle.tap_core.specs.Frames.{heard_packet}
-use Rattle.tap_core.proofs.Waits.{kept-one, opened-later}
+use Rattle.tap_core.proofs.Waits.{kept-one, last-kept, opened-later}
 use Rattle.tap_core.proofs.early.Early.keep.Goals as goal
 
 pub returns-clause-keeps : goal.returns-clause-keeps
@@ -24,3 +24,8 @@ returns-clause-keeps c = λ left k here.
       kept = subst (λ n. All (IsKept n) c.keep.new.self.kept.items) (sym c.max.ensures)
           (kept-one e.latest.0 e.waiting.kept.items _ (record { passed = e.waiting.passed; «record» = r }) c.in_ok-keep.ensures.kept here k.kept);
     }
+
+pub returns-clause-last : goal.returns-clause-last
+returns-clause-last c = λ fragments l.
+    let e = c.args.self.now in
+    last-kept fragments e.waiting.kept.items _ (record { passed = e.waiting.passed; «record» = c.args.«record» }) c.in_ok-keep.ensures.kept l

@@ -6,6 +6,7 @@ use Rattle.tap_core.specs.Early.{after_kept, IsKept, OpenedBy}
 use Rattle.tap_core.specs.Frames.{heard_packet}
 use Rattle.std.proofs.lemmas.List.Elements.{All-nil}
 use Rattle.tap_core.proofs.Kept.{behind-fades, fades}
+use Rattle.tap_core.proofs.Waits.{last-none}
 use Rattle.tap_core.proofs.early.Early.pass.Goals as goal
 
 pub returns-clause-keeps : goal.returns-clause-keeps
@@ -25,3 +26,6 @@ returns-clause-keeps c = λ left k.
       opened = λ counts. subst (All (OpenedBy 0)) (sym (faded counts)) (All-nil (OpenedBy 0));
       kept = subst (All (IsKept 0)) (sym c.forget.ensures.kept) (All-nil (IsKept 0));
     }
+
+pub returns-clause-last : goal.returns-clause-last
+returns-clause-last c = λ fragments l. last-none fragments _ c.forget.ensures.kept

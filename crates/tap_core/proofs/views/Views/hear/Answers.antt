@@ -3,4 +3,4 @@ use Rattle.tap_core.proofs.Apart.{views-hear}
 use Rattle.tap_core.proofs.views.Views.hear.Goals as goal
 
 pub returns : goal.returns
-returns c = λ left h apart. views-hear left _ _ _ _ c.args.fragment.now h apart c.hear.ensures c.hear_each.ensures
+returns c = λ left h. views-hear left _ _ _ _ c.args.fragment.now h c.requires c.hear.ensures c.hear_each.ensures

@@ -89,7 +89,7 @@ impl Reasm {
     }
 
     /// Whether a fragment that comes at a tick is dropped: one that reaches past the most octets of a datagram, or of a new
-    /// key while all pools are open. It then does no more than that tick.
+    /// key while all pools are open. It then does no more than that tick. Of a packet that isn't fragmented it tells nothing.
     pub fn drops(&self, now: Tick, f: &Ip) -> bool
         ensures { result ≡ is_dropped (packet_seen f.now) (open_at now.0 self.now) }
     {

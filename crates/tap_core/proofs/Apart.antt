@@ -1,5 +1,5 @@
 -- What holds of the views of stations, when one is taken or freed, and when fragments are heard.
-use Rattle.std.proofs.Common.{◌≡◌, ℕ, zero, suc, ◌+◌, ◌<◌, Bool, true, false, ◌||◌, List, [], ◌∷◌, ◌++◌, map, length, get_or, take, drop, set, All, Option, Some, None, is_none, refl, sym, ap, subst, ◌∙◌, arith}
+use Rattle.std.proofs.Common.{◌≡◌, ℕ, zero, suc, ◌+◌, ◌<◌, Bool, true, false, ◌||◌, List, [], ◌∷◌, ◌++◌, map, length, get_or, take, drop, remove, set, All, Option, Some, None, is_none, refl, sym, ap, subst, ◌∙◌, arith}
 use Rattle.std.specs.Bool.{Decides}
 use Rattle.std.specs.List.{list_any}
 use Rattle.std.specs.Str.{bytes_eq}
@@ -9,11 +9,12 @@ use Rattle.std.proofs.lemmas.List.Folds.{list_any-append}
 use Rattle.std.proofs.lemmas.Bool.{false≢true, true≢false}
 use Rattle.std.proofs.lemmas.Slice.Eq.{bytes_eq-Decides}
 use Rattle.efi_base.specs.declared.plain.Mac.{Mac}
+use Rattle.wire_ip4.specs.Packet.{Packet}
 use Rattle.ip_core.specs.Pools.{Pool, open_at}
 use Rattle.ip_core.specs.Bytes.{Bytes}
 use Rattle.tap_core.specs.declared.fragments.Fragment.{Fragment}
 use Rattle.tap_core.specs.declared.views.View.{View}
-use Rattle.tap_core.specs.Early.{after_kept, has_view, is_view_of, packets_of, view_after, view_at, view_with, AreAlike, AreLeft, IsLeft, Left}
+use Rattle.tap_core.specs.Early.{after_waiting, has_view, is_view_of, packets_of, view_after, view_at, view_with, AreAlike, AreLeft, IsLeft, Left}
 use Rattle.tap_core.specs.Frames.{heard_packet}
 
 or-left : (x y : Bool) → (x || y) ≡ false → x ≡ false
@@ -66,19 +67,19 @@ had-none : (change : Change) (station : List ℕ) (views views' : List View) →
 had-none change station views views' there out = sym (has-with change station views) ∙ ap (has_view station) (sym there) ∙ out
 
 abbrev left-after : Left → Fragment → Left
-left-after left k counts = after_kept counts (left counts) k
+left-after left k counts = after_waiting counts (left counts) k
 
 -- each station hears a fragment that it didn't send
 pub views-hear : (left : Left) (others others' : List (Pool Bytes)) (views views' : List View) (k : Fragment) → AreLeft left others views → AreAlike k others views
-    → others' ≡ after_kept (packets_of None) others k → views' ≡ map (view_after k) views → AreLeft (left-after left k) others' views'
+    → others' ≡ after_waiting (packets_of None) others k → views' ≡ map (view_after k) views → AreLeft (left-after left k) others' views'
 views-hear left others others' views views' k h alike here there = record {
-  others_are = here ∙ ap (λ p. after_kept (packets_of None) p k) h.others_are;
+  others_are = here ∙ ap (λ p. after_waiting (packets_of None) p k) h.others_are;
   each = subst (All (IsLeft (left-after left k))) (sym there)
-      (each-with (λ station pools. after_kept (packets_of station) pools k) left (left-after left k) (λ station. refl) views h.each);
+      (each-with (λ station pools. after_waiting (packets_of station) pools k) left (left-after left k) (λ station. refl) views h.each);
   rest = λ station out.
-      let out' = had-none (λ station pools. after_kept (packets_of station) pools k) station views views' there out in
-      ap (λ p. after_kept (heard_packet station) p k) (h.rest station out' ∙ sym h.others_are) ∙ alike station out'
-      ∙ ap (λ p. after_kept (packets_of None) p k) h.others_are;
+      let out' = had-none (λ station pools. after_waiting (packets_of station) pools k) station views views' there out in
+      ap (λ p. after_waiting (heard_packet station) p k) (h.rest station out' ∙ sym h.others_are) ∙ alike station out'
+      ∙ ap (λ p. after_waiting (packets_of None) p k) h.others_are;
 }
 
 -- the views after a step of a loop that changes each of them alike
@@ -141,8 +142,38 @@ view-freed left others views i x d l h same none pools = record {
       rest-by left others views i x d station (is_view_of station (get_or views i d)) refl h (All-get_or (IsLeft left) views i d l h.each) same out;
 }
 
+-- every station is left the same where none is left anything
+pub views-closed : (left : Left) (others others' : List (Pool Bytes)) (views views' : List View) (now : ℕ) → AreLeft left others views
+    → ((counts : List ℕ → Option Packet) → open_at now (left counts) ≡ []) → others' ≡ open_at now others → views' ≡ [] → AreLeft (left-at left now) others' views'
+views-closed left others others' views views' now h none here there = record {
+  others_are = here ∙ ap (open_at now) h.others_are;
+  each = subst (All (IsLeft (left-at left now))) (sym there) (All-nil (IsLeft (left-at left now)));
+  rest = λ station out. none (heard_packet station) ∙ sym (none (packets_of None));
+}
+
+any-removed : (p : View → Bool) (xs : List View) (i : ℕ) (d : View) → i < length xs → list_any p (remove xs i) ≡ false → p (get_or xs i d) ≡ false → list_any p xs ≡ false
+any-removed p [] i d l h k = refl
+any-removed p (y ∷ ys) zero d l h k = or-none (p y) (list_any p ys) k h
+any-removed p (y ∷ ys) (suc i) d l h k =
+    or-none (p y) (list_any p ys) (or-left (p y) (list_any p (remove ys i)) h) (any-removed p ys i d (omega (arith, l)) (or-right (p y) (list_any p (remove ys i)) h) k)
+
+All-removed : (P : View → Type 0) (xs : List View) (i : ℕ) → All P xs → All P (remove xs i)
+All-removed P [] zero all = all
+All-removed P [] (suc i) all = all
+All-removed P (y ∷ ys) zero all = All-tail P y ys all
+All-removed P (y ∷ ys) (suc i) all = All-cons P y (remove ys i) (All-head P y ys all) (All-removed P ys i (All-tail P y ys all))
+
 spare-of : (station : List ℕ) (v : View) → v.station ≡ None → is_view_of station v ≡ false
 spare-of station v e = ap (λ s. is_view_of station (record { station = s; pools = v.pools })) e
+
+-- a spare view is given back
+pub view-removed : (left : Left) (others : List (Pool Bytes)) (views : List View) (i : ℕ) (d : View) → i < length views → AreLeft left others views
+    → (get_or views i d).station ≡ None → AreLeft left others (remove views i)
+view-removed left others views i d l h spare = record {
+  others_are = h.others_are;
+  each = All-removed (IsLeft left) views i h.each;
+  rest = λ station none. h.rest station (any-removed (is_view_of station) views i d l none (spare-of station (get_or views i d) spare));
+}
 
 -- a spare view is taken for a station that has none
 pub view-taken : (left : Left) (others : List (Pool Bytes)) (views : List View) (i : ℕ) (x d : View) (m : Mac) → i < length views → AreLeft left others views

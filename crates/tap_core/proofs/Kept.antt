@@ -14,7 +14,7 @@ use Rattle.ip_core.specs.Datagrams.{after_event}
 use Rattle.ip_core.specs.Frames.{event_at, event_of, packet_in_frame}
 use Rattle.tap_core.specs.declared.fragments.Fragment.{Fragment}
 use Rattle.tap_core.specs.declared.fragments.Fragments.{Fragments}
-use Rattle.tap_core.specs.Early.{holds_fragment, after_kept, pools_behind, IsKept, OpenedBy}
+use Rattle.tap_core.specs.Early.{holds_fragment, after_waiting, pools_behind, CameBy, OpenedBy}
 use Rattle.tap_core.specs.Frames.{is_sent, heard_packet}
 
 and-right : (x y : Bool) → (y ≡ true → x ≡ true) → y ≡ (x && y)
@@ -105,25 +105,25 @@ event-by m now pools (Some p) h o =
     (fragment-by m now (open_at now pools) p h lasting) lasting
 
 -- no pool opens later than a fragment
-pub kept-opened : (o : List ℕ → Option Packet) (m : ℕ) (pools : List (Pool Bytes)) (k : Fragment) → IsKept m k → All (OpenedBy m) pools
-    → All (OpenedBy m) (after_kept o pools k)
+pub kept-opened : (o : List ℕ → Option Packet) (m : ℕ) (pools : List (Pool Bytes)) (k : Fragment) → CameBy m k → All (OpenedBy m) pools
+    → All (OpenedBy m) (after_waiting o pools k)
 kept-opened o m pools k by opened =
-    event-by m k.record.tick.0 (open_at k.passed.0 pools) (o k.record.frame) by.by (All-filter (lasts k.passed.0) (OpenedBy m) pools opened)
+    event-by m k.record.tick.0 (open_at k.passed.0 pools) (o k.record.frame) by (All-filter (lasts k.passed.0) (OpenedBy m) pools opened)
 
-pub folded-by : (o : List ℕ → Option Packet) (m : ℕ) (pools : List (Pool Bytes)) (kept : List Fragment) → All (OpenedBy m) pools → All (IsKept m) kept
-    → All (OpenedBy m) (fold (after_kept o) pools kept)
+pub folded-by : (o : List ℕ → Option Packet) (m : ℕ) (pools : List (Pool Bytes)) (kept : List Fragment) → All (OpenedBy m) pools → All (CameBy m) kept
+    → All (OpenedBy m) (fold (after_waiting o) pools kept)
 folded-by o m pools [] opened by = opened
 folded-by o m pools (k ∷ kept) opened by =
-    folded-by o m (after_kept o pools k) kept
-    (kept-opened o m pools k (All-head (IsKept m) k kept by) opened)
-    (All-tail (IsKept m) k kept by)
+    folded-by o m (after_waiting o pools k) kept
+    (kept-opened o m pools k (All-head (CameBy m) k kept by) opened)
+    (All-tail (CameBy m) k kept by)
 
 -- once the time of the latest fragment's pool is over, none is open
 pub behind-fades : (o : List ℕ → Option Packet) (f : Fragments) (pools : List (Pool Bytes)) (m now : ℕ) → lifetime ≤ now - m → All (OpenedBy m) pools
-    → All (IsKept m) f.kept.items → open_at now (pools_behind o f pools) ≡ []
+    → All (CameBy m) f.kept.items → open_at now (pools_behind o f pools) ≡ []
 behind-fades o f pools m now h opened kept =
     fades m now (pools_behind o f pools) h
-    (All-filter (lasts f.passed.0) (OpenedBy m) (fold (after_kept o) pools f.kept.items) (folded-by o m pools f.kept.items opened kept))
+    (All-filter (lasts f.passed.0) (OpenedBy m) (fold (after_waiting o) pools f.kept.items) (folded-by o m pools f.kept.items opened kept))
 
 -- an event sees the pools that are open at its tick
 pub event-same : (now : ℕ) (a b : List (Pool Bytes)) (p : Option Packet) → open_at now a ≡ open_at now b
@@ -145,11 +145,11 @@ record-passes station pools r e = event-passes r.tick.0 pools (is_sent station r
 
 -- the pools behind one fragment more
 pub behind-next : (o : List ℕ → Option Packet) (kept : List Fragment) (pools : List (Pool Bytes)) (f : Fragment)
-    → open_at 0 (fold (after_kept o) pools (kept ++ f ∷ [])) ≡ after_kept o (fold (after_kept o) pools kept) f
-behind-next o kept pools f = open-zero (fold (after_kept o) pools (kept ++ f ∷ [])) ∙ fold-append (after_kept o) pools kept (f ∷ [])
+    → open_at 0 (fold (after_waiting o) pools (kept ++ f ∷ [])) ≡ after_waiting o (fold (after_waiting o) pools kept) f
+behind-next o kept pools f = open-zero (fold (after_waiting o) pools (kept ++ f ∷ [])) ∙ fold-append (after_waiting o) pools kept (f ∷ [])
 
 pub kept-more : (o : List ℕ → Option Packet) (kept : List Fragment) (pools : List (Pool Bytes)) (i : ℕ) (f : Fragment) → i < length kept → f ≡ get_or kept i f
-    → fold (after_kept o) pools (take (i + 1) kept) ≡ after_kept o (fold (after_kept o) pools (take i kept)) f
+    → fold (after_waiting o) pools (take (i + 1) kept) ≡ after_waiting o (fold (after_waiting o) pools (take i kept)) f
 kept-more o kept pools i f h e =
-    ap (fold (after_kept o) pools) (take_more kept i f h ∙ ap (λ x. take i kept ++ x ∷ []) (sym e))
-    ∙ fold-append (after_kept o) pools (take i kept) (f ∷ [])
+    ap (fold (after_waiting o) pools) (take_more kept i f h ∙ ap (λ x. take i kept ++ x ∷ []) (sym e))
+    ∙ fold-append (after_waiting o) pools (take i kept) (f ∷ [])

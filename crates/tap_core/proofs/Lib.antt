@@ -1,9 +1,9 @@
 pub mod Apart
 pub mod Counts
+pub mod Dropped
 pub mod HeardLaws
 pub mod Honest
 pub mod Kept
-pub mod Lost
 pub mod OneEnd
 pub mod OneThing
 pub mod Records

@@ -14,7 +14,7 @@ use Rattle.ip_core.specs.Frames.{event_of}
 use Rattle.tap_core.specs.declared.early.Early.{Early}
 use Rattle.tap_core.specs.declared.fragments.Fragment.{Fragment}
 use Rattle.tap_core.specs.declared.fragments.Fragments.{Fragments}
-use Rattle.tap_core.specs.Early.{after_kept, fragments_of, holds_fragment, latest_after, latest_at, latest_of, pools_behind, AreLast, IsKept, Keeps, Left, OpenedBy}
+use Rattle.tap_core.specs.Early.{after_waiting, fragments_of, holds_fragment, latest_after, latest_at, latest_of, pools_behind, AreLast, CameBy, Keeps, Left, OpenedBy}
 use Rattle.tap_core.specs.Frames.{heard_packet}
 use Rattle.tap_core.proofs.Kept.{event-same, open-open}
 
@@ -28,11 +28,11 @@ event-open pools r counts =
 -- what is left to each station alike is kept alike
 pub keeps-same : (a b : Left) (e : Early) → ((station : List ℕ) → a (heard_packet station) ≡ b (heard_packet station)) → Keeps a e → Keeps b e
 keeps-same a b e same k = record {
-  front = k.front;
+  before = k.before;
   views = k.views;
   pools = λ station. k.pools station ∙ same station;
   opened = k.opened;
-  kept = k.kept;
+  waiting = k.waiting;
 }
 
 -- a pool that opened by a tick opened by a later one
@@ -41,20 +41,18 @@ opened-later m n [] h o = All-nil (OpenedBy n)
 opened-later m n (p ∷ pools) h o =
     All-cons (OpenedBy n) p pools (omega (arith, h, All-head (OpenedBy m) p pools o)) (opened-later m n pools h (All-tail (OpenedBy m) p pools o))
 
-pub kept-later : (m n : ℕ) (kept : List Fragment) → m ≤ n → All (IsKept m) kept → All (IsKept n) kept
-kept-later m n [] h o = All-nil (IsKept n)
-kept-later m n (k ∷ kept) h o =
-    let here = All-head (IsKept m) k kept o in
-    All-cons (IsKept n) k kept (record { by = omega (arith, h, here.by); holding = here.holding }) (kept-later m n kept h (All-tail (IsKept m) k kept o))
+waiting-later : (m n : ℕ) (waiting : List Fragment) → m ≤ n → All (CameBy m) waiting → All (CameBy n) waiting
+waiting-later m n [] h o = All-nil (CameBy n)
+waiting-later m n (k ∷ waiting) h o =
+    All-cons (CameBy n) k waiting (omega (arith, h, All-head (CameBy m) k waiting o)) (waiting-later m n waiting h (All-tail (CameBy m) k waiting o))
 
 -- one more waits
-pub kept-one : (m : ℕ) (kept now : List Fragment) (k : Fragment) → now ≡ kept ++ k ∷ [] → holds_fragment k.record.frame ≡ true → All (IsKept m) kept
-    → All (IsKept (max m k.record.tick.0)) now
-kept-one m kept now k items here all =
+pub waiting-one : (m : ℕ) (waiting now : List Fragment) (k : Fragment) → now ≡ waiting ++ k ∷ [] → All (CameBy m) waiting → All (CameBy (max m k.record.tick.0)) now
+waiting-one m waiting now k items all =
     let n = max m k.record.tick.0 in
-    subst (All (IsKept n)) (sym items)
-    (All-append (IsKept n) kept (k ∷ []) (kept-later m n kept (le-max_left m k.record.tick.0) all)
-    (All-cons (IsKept n) k [] (record { by = le-max_right m k.record.tick.0; holding = here }) (All-nil (IsKept n))))
+    subst (All (CameBy n)) (sym items)
+    (All-append (CameBy n) waiting (k ∷ []) (waiting-later m n waiting (le-max_left m k.record.tick.0) all)
+    (All-cons (CameBy n) k [] (le-max_right m k.record.tick.0) (All-nil (CameBy n))))
 
 pub first-of : (kept : List Fragment) (k : Fragment) → 0 < length kept → k ≡ get_or kept 0 k → kept ≡ k ∷ drop 1 kept
 first-of [] k l e = absurd (omega (arith, l))
@@ -62,7 +60,7 @@ first-of (x ∷ kept) k l e = ap (λ y. y ∷ kept) (sym e)
 
 -- a fragment sees the pools that are open at its ticks
 kept-ticked : (counts : List ℕ → Option Packet) (k : Fragment) (pools : List (Pool Bytes)) (m : ℕ) → m ≡ max k.passed.0 k.record.tick.0
-    → after_kept counts (open_at m pools) k ≡ after_kept counts pools k
+    → after_waiting counts (open_at m pools) k ≡ after_waiting counts pools k
 kept-ticked counts k pools m e =
     let p = k.passed.0 in
     let t = k.record.tick.0 in
@@ -76,9 +74,9 @@ pub behind-ticked : (counts : List ℕ → Option Packet) (f : Fragments) (k : F
 behind-ticked counts f k pools m l e h =
     let items = first-of f.kept.items k l e in
     let rest = drop 1 f.kept.items in
-    ap (λ xs. open_at f.passed.0 (fold (after_kept counts) (open_at m pools) xs)) items
-    ∙ ap (λ ps. open_at f.passed.0 (fold (after_kept counts) ps rest)) (kept-ticked counts k pools m h)
-    ∙ ap (λ xs. open_at f.passed.0 (fold (after_kept counts) pools xs)) (sym items)
+    ap (λ xs. open_at f.passed.0 (fold (after_waiting counts) (open_at m pools) xs)) items
+    ∙ ap (λ ps. open_at f.passed.0 (fold (after_waiting counts) ps rest)) (kept-ticked counts k pools m h)
+    ∙ ap (λ xs. open_at f.passed.0 (fold (after_waiting counts) pools xs)) (sym items)
 
 -- the latest tick after one record more
 pub latest-next : (records : List Record) (r : Record) → latest_of (records ++ r ∷ []) ≡ latest_after (latest_of records) r

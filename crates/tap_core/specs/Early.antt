@@ -1,6 +1,6 @@
 -- What is kept of the records in front of the segment that asks for a connection, while no station is known: the pools that
--- fragments left open, for each station that sent some of them, and for all others, who heard the same.
-use Rattle.std.specs.Prelude.{◌≡◌, ◌⊎◌, ℕ, ◌-◌, ◌≤◌, ◌<◌, max, nat_lt, Bool, true, false, List, [], ◌++◌, filter, map, fold, All, Option, Some, None, if◌then◌else◌}
+-- fragments left open to stations that sent some of them, each apart, and those that they left to all others alike.
+use Rattle.std.specs.Prelude.{◌≡◌, ◌⊎◌, ℕ, ◌-◌, ◌≤◌, ◌<◌, max, nat_lt, Bool, false, List, [], ◌++◌, filter, map, fold, All, Option, Some, None, if◌then◌else◌}
 use Rattle.std.specs.List.{list_any}
 use Rattle.std.specs.Option.{option_map_or}
 use Rattle.std.specs.Str.{bytes_eq}
@@ -37,13 +37,13 @@ abbrev pub left_by : List Record → Left
 left_by records counts = pools_by counts [] records
 
 -- the pools after a fragment, where these packets are heard: the tick that passed in front of it closes old ones, and then the
--- fragment is taken in
-abbrev pub after_kept : (List ℕ → Option Packet) → List (Pool Bytes) → Fragment → List (Pool Bytes)
-after_kept counts pools f = after_event bytes_kept (open_at f.passed.0 pools) (event_of counts f.record)
+-- fragment is taken in, or only its own tick passes where it isn't heard
+abbrev pub after_waiting : (List ℕ → Option Packet) → List (Pool Bytes) → Fragment → List (Pool Bytes)
+after_waiting counts pools f = after_event bytes_kept (open_at f.passed.0 pools) (event_of counts f.record)
 
 -- the pools behind fragments that wait, with these before them, after the tick that passed behind the last of them
 abbrev pub pools_behind : (List ℕ → Option Packet) → Fragments → List (Pool Bytes) → List (Pool Bytes)
-pools_behind counts f pools = open_at f.passed.0 (fold (after_kept counts) pools f.kept.items)
+pools_behind counts f pools = open_at f.passed.0 (fold (after_waiting counts) pools f.kept.items)
 
 -- the view is this station's
 abbrev pub is_view_of : List ℕ → View → Bool
@@ -53,17 +53,17 @@ is_view_of station v = option_map_or (λ (m : Mac). bytes_eq m.0 station) v.stat
 abbrev pub has_view : List ℕ → List View → Bool
 has_view station views = list_any (is_view_of station) views
 
--- a view has what is left to its station, or to one that sent none of the fragments
+-- a view has what is left to its station; a spare one has what is left to one that sent none of the fragments
 abbrev pub IsLeft : Left → View → Type 0
 IsLeft left v = v.pools ≡ left (packets_of v.station)
 
--- a view whose pools have changed, by whose they are
+-- a view after a change of its pools, which depends on its station
 abbrev pub view_with : (Option Mac → List (Pool Bytes) → List (Pool Bytes)) → View → View
 view_with change v = record { station = v.station; pools = change v.station v.pools }
 
--- a view after a fragment, which its station hears unless it sent it
+-- a view after a fragment, which its station hears unless it sent it; a spare one hears each
 abbrev pub view_after : Fragment → View → View
-view_after f = view_with (λ station pools. after_kept (packets_of station) pools f)
+view_after f = view_with (λ station pools. after_waiting (packets_of station) pools f)
 
 -- a view after a tick
 abbrev pub view_at : ℕ → View → View
@@ -80,38 +80,36 @@ pub record AreLeft (left : Left) (others : List (Pool Bytes)) (views : List View
 abbrev pub IsNotFrom : List ℕ → Record → Type 0
 IsNotFrom station r = is_sent station r.frame ≡ false
 
--- the greater of a fragment's tick and the one that passed in front of it
-abbrev pub latest_tick : Fragment → ℕ
-latest_tick f = max f.passed.0 f.record.tick.0
+-- the greater of a fragment's own tick and the one that passed in front of it
+abbrev pub tick_of : Fragment → ℕ
+tick_of f = max f.passed.0 f.record.tick.0
 
--- a fragment does no more to these pools than its ticks: it is dropped
-abbrev pub is_lost : Fragment → List (Pool Bytes) → Bool
-is_lost f pools = option_map_or (λ p. is_dropped p (open_at (latest_tick f) pools)) (packet_in_frame packet_of f.record.frame) false
+-- at its ticks a fragment is dropped from these pools, so that it does no more to them than the ticks
+abbrev pub drops : Fragment → List (Pool Bytes) → Bool
+drops f pools = option_map_or (λ p. is_dropped p (open_at (tick_of f) pools)) (packet_in_frame packet_of f.record.frame) false
 
--- whoever has no view is left the same by a fragment as the others are: it didn't send it, or the others lose it
+-- whoever has no view is left the same by a fragment as the others are, as where it didn't send it, or the others drop it
 abbrev pub AreAlike : Fragment → List (Pool Bytes) → List View → Type 0
-AreAlike f others views = (station : List ℕ) → has_view station views ≡ false → after_kept (heard_packet station) others f ≡ after_kept (packets_of None) others f
+AreAlike f others views = (station : List ℕ) → has_view station views ≡ false → after_waiting (heard_packet station) others f ≡ after_waiting (packets_of None) others f
 
 -- a pool that opened no later than a tick
 abbrev pub OpenedBy : ℕ → Pool Bytes → Type 0
 OpenedBy tick p = p.opened ≤ tick
 
--- a fragment, no later than a tick
-pub record IsKept (tick : ℕ) (k : Fragment) : Type 0 where
-  pub by : k.record.tick.0 ≤ tick
-  pub holding : holds_fragment k.record.frame ≡ true
+-- a fragment of no later tick
+abbrev pub CameBy : ℕ → Fragment → Type 0
+CameBy tick f = f.record.tick.0 ≤ tick
 
--- Whoever is the station, this is left to it: the views have what the records in front of those that wait left, and those that
--- wait do the rest. None of the pools in front of them opened behind the latest tick, and each record that waits holds a fragment
--- of no later one.
+-- Whoever is the station, this is left to it: the views have some pools, from which the fragments that wait make what is left. None of
+-- the pools in the views opened later than the latest tick, and no fragment that waits has a later one.
 pub record Keeps (left : Left) (e : Early) : Type 0 where
-  pub front : Left
-  pub views : AreLeft front e.views.others e.views.apart.items
-  pub pools : (station : List ℕ) → pools_behind (heard_packet station) e.waiting (front (heard_packet station)) ≡ left (heard_packet station)
-  pub opened : (counts : List ℕ → Option Packet) → All (OpenedBy e.latest.0) (front counts)
-  pub kept : All (IsKept e.latest.0) e.waiting.kept.items
+  pub before : Left
+  pub views : AreLeft before e.views.others e.views.apart.items
+  pub pools : (station : List ℕ) → pools_behind (heard_packet station) e.waiting (before (heard_packet station)) ≡ left (heard_packet station)
+  pub opened : (counts : List ℕ → Option Packet) → All (OpenedBy e.latest.0) (before counts)
+  pub waiting : All (CameBy e.latest.0) e.waiting.kept.items
 
--- what is left of the latest tick at this one: 0 where a pool is over that opened at it
+-- the latest tick once this one has passed: 0 where a pool that opened at it would be over
 abbrev pub latest_at : ℕ → ℕ → ℕ
 latest_at now latest = if nat_lt (now - latest) lifetime then latest else 0
 
@@ -119,11 +117,12 @@ latest_at now latest = if nat_lt (now - latest) lifetime then latest else 0
 abbrev pub latest_after : ℕ → Record → ℕ
 latest_after latest r = let passed = latest_at r.tick.0 latest in if holds_fragment r.frame then max passed r.tick.0 else passed
 
--- the greatest tick of a fragment since all pools were over, or 0 where there was none
+-- the greatest tick of a fragment since a record came 30,000 ticks or more behind the greatest until then, when no pool is open; 0
+-- where none came since
 abbrev pub latest_of : List Record → ℕ
 latest_of records = fold latest_after 0 records
 
--- none waits, or a pool that opened at the latest tick isn't over at this one
+-- none waits, or a pool that opened at the latest tick wouldn't be over at this one
 abbrev pub AreRecent : ℕ → Early → Type 0
 AreRecent now e = (e.waiting.kept.items ≡ []) ⊎ (now - e.latest.0 < lifetime)
 
@@ -131,14 +130,13 @@ AreRecent now e = (e.waiting.kept.items ≡ []) ⊎ (now - e.latest.0 < lifetime
 abbrev pub fragments_of : List Record → List Record
 fragments_of records = filter (λ r. holds_fragment r.frame) records
 
--- fragments that wait are the last of these, in order: those in front of them were heard, or their time is over
+-- fragments that wait are the last of these, in order
 pub record AreLast (fragments : List Record) (waiting : List Fragment) : Type 0 where
   pub front : List Record
   pub parts : fragments ≡ front ++ map (λ k. k.record) waiting
 
 -- Whoever is the station, what is kept leaves the pools that the records leave. No record waits but the last fragments, and none of
--- them where, at the last record's tick, a pool is over that opened at the greatest tick of a fragment since all pools were over, or at 0
--- where there was none.
+-- them where a pool that opened at the latest tick would be over at the last record's.
 pub record KeepsFragments (records : List Record) (e : Early) : Type 0 where
   pub keeps : Keeps (left_by records) e
   pub last : AreLast (fragments_of records) e.waiting.kept.items

@@ -1,6 +1,6 @@
 //! What is kept of the records in front of the segment that asks for a connection. Which station hears their fragments shows
-//! only with that segment, so the pools are kept that they left open to each of their senders, and to all others. Where that is
-//! too many a fragment waits, and all behind it. How pools are kept apart isn't here.
+//! only with that segment, so the pools are kept that they left open to their senders, and to all others. Where that is too
+//! many a fragment waits, and all behind it. How pools are kept apart isn't here.
 ghost use Rattle.std.specs.Prelude.{◌≡◌, ◌<◌, ◌∷◌, ◌++◌, [], true, false, max, List, ℕ, IfOk, OnOk};
 ghost use Rattle.std.specs.VecDeque.{deque_len};
 ghost use Rattle.efi_base.specs.declared.plain.Record.{Record};
@@ -13,16 +13,16 @@ ghost use Rattle.tap_core.specs.Frames.{heard_packet};
 
 use crate::fragments::{Fragments, octets_of};
 use crate::packets::holds_fragment;
-use crate::views::Views;
+use crate::views::{Views, most_views};
 use efi_base::{Mac, NoMemory, Record, Tick};
 use ip_core::{LIFETIME, Reasm};
 use std::alloc::Global;
 
-/// How many octets of memory fragments take for each pool that is compared to take views from stations: it takes time.
+/// How many octets of fragments it costs, for each pool that is open to the others, to compare all views with them: it takes time.
 const PRICE: usize = 512;
 
 /// The pools that fragments left open to each station, and fragments that wait to be heard. The latest tick is the greatest of a
-/// fragment's since all pools were over. `budget` is how many octets of memory fragments took, less what was paid for comparing.
+/// fragment since no pool could be open. `budget` is how many octets of memory fragments took, less what was paid for comparing.
 #[derive(Drop)]
 pub struct Early {
     views: Views,
@@ -65,7 +65,7 @@ impl Early {
         Ok(pools)
     }
 
-    /// A tick passes. Where each pool is over that a fragment can have opened, none waits any longer.
+    /// A tick passes. Where each pool is over that a fragment can have opened, none waits any longer, and no station needs a view.
     fn pass(&mut self, now: Tick)
         ensures keeps { (left : Left) → Keeps left self.old → Keeps (λ counts. open_at now.0 (left counts)) self.new }
         ensures last { (fragments : List Record) → AreLast fragments self.old.waiting.kept.items → AreLast fragments self.new.waiting.kept.items }
@@ -76,14 +76,14 @@ impl Early {
             self.waiting.pass(now);
             return;
         }
-        self.views.tick(now);
+        self.views.close(now);
         self.waiting.forget();
         self.latest = Tick(0);
     }
 
     /// One fragment more waits.
     fn keep(&mut self, record: Record) -> Result<(), NoMemory>
-        ensures keeps { (left : Left) → Keeps left self.old → holds_fragment «record».frame ≡ true
+        ensures keeps { (left : Left) → Keeps left self.old
             → OnOk result (Keeps (λ counts. after_event bytes_kept (left counts) (event_of counts «record»)) self.new) }
         ensures last { (fragments : List Record) → AreLast fragments self.old.waiting.kept.items
             → OnOk result (AreLast (fragments ++ «record» ∷ []) self.new.waiting.kept.items) }
@@ -96,7 +96,7 @@ impl Early {
         Ok(())
     }
 
-    /// Hears those that wait, the first one first, as far as there are views for their senders.
+    /// Hears those that wait, the first one first, as far as all can be told apart to which they leave different pools.
     fn settle(&mut self, alloc: Global)
         ensures keeps { (left : Left) → Keeps left self.old → Keeps left self.new }
         ensures last { (fragments : List Record) → AreLast fragments self.old.waiting.kept.items → AreLast fragments self.new.waiting.kept.items }
@@ -105,7 +105,7 @@ impl Early {
         while self.hear_next(alloc) || self.free_views() {}
     }
 
-    /// Hears the first that waits, where all can be told apart that it leaves different pools, and answers whether it was heard.
+    /// Hears the first that waits, where all can be told apart to which it leaves different pools, and answers whether it was heard.
     fn hear_next(&mut self, alloc: Global) -> bool
         ensures keeps { (left : Left) → Keeps left self.old → Keeps left self.new }
         ensures last { (fragments : List Record) → AreLast fragments self.old.waiting.kept.items → AreLast fragments self.new.waiting.kept.items }
@@ -114,20 +114,21 @@ impl Early {
         ensures fewer { result ≡ true → deque_len self.new.waiting.kept < deque_len self.old.waiting.kept }
         ensures same { result ≡ false → deque_len self.new.waiting.kept ≡ deque_len self.old.waiting.kept }
     {
-        let octets = self.waiting.octets();
+        let most = most_views(self.waiting.octets());
         let Some(fragment) = self.waiting.kept.front() else {
             return false;
         };
-        if !self.views.make_room(alloc, fragment, octets) {
+        if !self.views.make_room(alloc, fragment, most) {
             return false;
         }
         self.views.hear(fragment);
         self.waiting.leave();
+        self.views.shrink(most);
         true
     }
 
     /// Takes views from stations to which the same is left as to the others at the tick of the first fragment that waits.
-    /// Answers whether there was one; false where too few octets came since to pay for it.
+    /// Answers whether a view is spare then; false where the budget doesn't pay for it.
     fn free_views(&mut self) -> bool
         ensures keeps { (left : Left) → Keeps left self.old → Keeps left self.new }
         ensures latest { self.new.latest ≡ self.old.latest }

@@ -6,7 +6,7 @@ ghost use Rattle.ip_core.specs.Bytes.{Bytes, bytes_kept};
 ghost use Rattle.ip_core.specs.Datagrams.{after_event};
 ghost use Rattle.ip_core.specs.Frames.{event_of};
 ghost use Rattle.ip_core.specs.Pools.{Pool, open_at};
-ghost use Rattle.tap_core.specs.Early.{after_kept, latest_tick, packets_of, pools_behind};
+ghost use Rattle.tap_core.specs.Early.{after_waiting, tick_of, packets_of, pools_behind};
 ghost use Rattle.tap_core.specs.Frames.{heard_packet};
 
 use crate::packets::read_packet;
@@ -18,15 +18,15 @@ use std::collections::VecDeque;
 /// How many octets of memory a fragment takes beside its frame, roughly.
 const BESIDE: usize = 64;
 
-/// A fragment, and the greatest tick that passed since the one before it, 0 where none did.
+/// A fragment, and the greatest tick that passed since the one before it was kept, its own included, 0 where none is known.
 #[derive(Drop)]
 pub struct Fragment {
     pub passed: Tick,
     pub record: Record,
 }
 
-/// Fragments in order, the greatest tick that passed since the last one came, 0 where none did, and how many octets of memory
-/// they take.
+/// Fragments in order, the greatest tick that passed since the last one was kept, 0 where none is known, and how many octets of
+/// memory they take.
 #[derive(Drop)]
 pub struct Fragments {
     pub kept: VecDeque<Fragment>,
@@ -37,7 +37,7 @@ pub struct Fragments {
 impl Fragment {
     /// The greater of its tick and the one that passed in front of it.
     pub fn tick(&self) -> Tick
-        ensures { result.0 ≡ latest_tick self.now }
+        ensures { result.0 ≡ tick_of self.now }
     {
         Tick(self.passed.0.max(self.record.tick.0))
     }
@@ -45,7 +45,7 @@ impl Fragment {
     /// What it does to the pools of a station, or of one that sent none of the fragments. Nothing is wanted of a datagram that
     /// it makes whole.
     pub fn hear(&self, station: Option<Mac>, pools: &mut Reasm)
-        ensures { pools.new ≡ after_kept (packets_of station) pools.old self.now }
+        ensures { pools.new ≡ after_waiting (packets_of station) pools.old self.now }
     {
         pools.tick(self.passed);
         match read_packet(station, self.record.frame.as_slice()) {

@@ -1,12 +1,13 @@
 //! The pools that fragments left open to stations, before one of them is known to be the one that is watched: each station
 //! hears all fragments but its own. What they do to pools isn't here.
-ghost use Rattle.std.specs.Prelude.{◌≡◌, [], true, false, List, ℕ, IfOk, None, is_none, map};
+ghost use Rattle.std.specs.Prelude.{◌≡◌, [], true, false, List, ℕ, IfOk, None, Option, is_none, map};
 ghost use Rattle.std.specs.List.{position};
 ghost use Rattle.std.specs.Str.{bytes_eq};
 ghost use Rattle.efi_base.specs.declared.plain.Record.{Record};
+ghost use Rattle.wire_ip4.specs.Packet.{Packet};
 ghost use Rattle.ip_core.specs.Pools.{open_at};
 ghost use Rattle.tap_core.specs.declared.views.View.{View};
-ghost use Rattle.tap_core.specs.Early.{AreAlike, AreLeft, IsNotFrom, Left, after_kept, has_view, is_lost, is_view_of, packets_of, view_after, view_at};
+ghost use Rattle.tap_core.specs.Early.{AreAlike, AreLeft, IsNotFrom, Left, after_waiting, has_view, drops, is_view_of, packets_of, view_after, view_at};
 ghost use Rattle.tap_core.specs.Frames.{heard_packet};
 
 use crate::fragments::Fragment;
@@ -16,11 +17,11 @@ use ip_core::{POOLS, Reasm};
 use std::alloc::Global;
 use wire_link::read_ether;
 
-/// How many stations' pools may be kept apart, whatever waits: one for each pool, for the senders of datagrams that stay open.
-/// A view takes memory for all its pools, some 1.2 MB, of which 0.3 MB is used at once.
+/// How many stations' pools may be kept apart, whatever waits: as many as there are pools, each of which a sender may leave
+/// open. A view takes memory for all its pools, some 1.2 MB; of that 0.3 MB is in use at once, and what its open pools hold.
 const VIEWS: usize = POOLS;
 
-/// For how many octets that wait one more may be kept apart.
+/// For how many octets of memory that wait one more may be kept apart.
 const VIEW_OCTETS: usize = 262_144;
 
 /// The pools of a station that sent some of the fragments. A view of no station is spare: its pools are those of the others.
@@ -68,28 +69,38 @@ impl Views {
         tick_each(&mut self.apart, now);
     }
 
-    /// Each station hears a fragment that it didn't send.
+    /// A tick passes at which no pool is left open to anyone, so no station needs a view.
+    pub fn close(&mut self, now: Tick)
+        ensures { (left : Left) → AreLeft left self.old.others self.old.apart.items
+            → ((counts : List ℕ → Option Packet) → open_at now.0 (left counts) ≡ [])
+            → AreLeft (λ counts. open_at now.0 (left counts)) self.new.others self.new.apart.items }
+    {
+        self.others.tick(now);
+        self.apart.clear();
+    }
+
+    /// Each station hears a fragment that it didn't send. Whoever has no view has to be left the same by it.
     pub fn hear(&mut self, fragment: &Fragment)
         requires { AreAlike fragment.now self.old.others self.old.apart.items }
         ensures { (left : Left) → AreLeft left self.old.others self.old.apart.items
-            → AreLeft (λ counts. after_kept counts (left counts) fragment.now) self.new.others self.new.apart.items }
+            → AreLeft (λ counts. after_waiting counts (left counts) fragment.now) self.new.others self.new.apart.items }
     {
         fragment.hear(None, &mut self.others);
         hear_each(&mut self.apart, fragment);
     }
 
-    /// Gives the sender of a fragment a view, if it has none and the others don't lose the fragment, while so many octets wait.
-    /// Answers whether all who have no view are left the same by the fragment then.
-    pub fn make_room(&mut self, alloc: Global, fragment: &Fragment, waiting: usize) -> bool
+    /// Gives the sender of a fragment a view, if it has none and the others don't drop the fragment, and there are fewer than
+    /// this many. Answers true only where all who have no view are left the same by the fragment then.
+    pub fn make_room(&mut self, alloc: Global, fragment: &Fragment, most: usize) -> bool
         ensures left { (left : Left) → AreLeft left self.old.others self.old.apart.items → AreLeft left self.new.others self.new.apart.items }
         ensures alike { result ≡ true → AreAlike fragment.now self.new.others self.new.apart.items }
     {
-        self.lose(fragment) || self.know_sender(alloc, &fragment.record, waiting)
+        self.drops(fragment) || self.know_sender(alloc, &fragment.record, most)
     }
 
-    /// Whether the others lose a fragment: no pool of theirs takes it in.
-    fn lose(&self, fragment: &Fragment) -> bool
-        ensures { result ≡ is_lost fragment.now self.now.others }
+    /// Whether the others drop a fragment: no pool of theirs takes it in.
+    fn drops(&self, fragment: &Fragment) -> bool
+        ensures { result ≡ drops fragment.now self.now.others }
     {
         match read_packet(None, fragment.record.frame.as_slice()) {
             Some(packet) => self.others.drops(fragment.tick(), &packet),
@@ -99,18 +110,18 @@ impl Views {
 
     /// Gives the sender of a record a view, if it has none, and answers whether it has one then. A frame too short for an
     /// Ethernet header has no sender, and needs none.
-    fn know_sender(&mut self, alloc: Global, record: &Record, waiting: usize) -> bool
+    fn know_sender(&mut self, alloc: Global, record: &Record, most: usize) -> bool
         ensures left { (left : Left) → AreLeft left self.old.others self.old.apart.items → AreLeft left self.new.others self.new.apart.items }
         ensures here { result ≡ true → (station : List ℕ) → has_view station self.new.apart.items ≡ false → IsNotFrom station «record».now }
     {
         match read_ether(record.frame.as_slice()) {
-            Ok(ether) => self.take_view(alloc, ether.src, waiting),
+            Ok(ether) => self.take_view(alloc, ether.src, most),
             Err(_) => true,
         }
     }
 
     /// Gives a station a view, if it has none, and answers whether it has one then.
-    fn take_view(&mut self, alloc: Global, station: Mac, waiting: usize) -> bool
+    fn take_view(&mut self, alloc: Global, station: Mac, most: usize) -> bool
         ensures left { (left : Left) → AreLeft left self.old.others self.old.apart.items → AreLeft left self.new.others self.new.apart.items }
         ensures here { result ≡ true → (other : List ℕ) → has_view other self.new.apart.items ≡ false → bytes_eq station.0 other ≡ false }
     {
@@ -118,19 +129,19 @@ impl Views {
             return true;
         }
         let Some(place) = find_spare(&self.apart) else {
-            return self.open(alloc, station, waiting);
+            return self.open(alloc, station, most);
         };
         self.apart[place].station = Some(station);
         true
     }
 
-    /// One view more, for a station that has none. Answers false where there are too many, or no memory.
-    fn open(&mut self, alloc: Global, station: Mac, waiting: usize) -> bool
+    /// One view more, for a station that has none. Answers false where there are as many as may be, or no memory.
+    fn open(&mut self, alloc: Global, station: Mac, most: usize) -> bool
         ensures left { (left : Left) → AreLeft left self.old.others self.old.apart.items → has_view station.0 self.old.apart.items ≡ false
             → AreLeft left self.new.others self.new.apart.items }
         ensures here { result ≡ true → (other : List ℕ) → has_view other self.new.apart.items ≡ false → bytes_eq station.0 other ≡ false }
     {
-        if self.apart.len() >= VIEWS.saturating_add(waiting / VIEW_OCTETS) {
+        if self.apart.len() >= most {
             return false;
         }
         let Ok(pools) = self.others.try_clone(alloc) else {
@@ -140,12 +151,24 @@ impl Views {
         self.apart.push(View { station, pools }).is_ok()
     }
 
-    /// Takes the views from stations to which the same is left as to the others, and answers whether there was one.
+    /// Takes the views from stations to which the same is left as to the others, and answers whether one is spare then.
     pub fn release(&mut self) -> bool
         ensures { (left : Left) → AreLeft left self.old.others self.old.apart.items → AreLeft left self.new.others self.new.apart.items }
     {
         release_each(&mut self.apart, &self.others);
         find_spare(&self.apart).is_some()
+    }
+
+    /// Gives back the memory of a spare view, where there are more than this many.
+    pub fn shrink(&mut self, most: usize)
+        ensures { (left : Left) → AreLeft left self.old.others self.old.apart.items → AreLeft left self.new.others self.new.apart.items }
+    {
+        if self.apart.len() <= most {
+            return;
+        }
+        if let Some(place) = find_spare(&self.apart) {
+            let _ = self.apart.remove(place);
+        }
     }
 
     /// The pools of a station.
@@ -159,6 +182,11 @@ impl Views {
         }
         self.others.try_clone(alloc)
     }
+}
+
+/// How many stations' pools may be kept apart, while so many octets wait.
+pub fn most_views(octets: usize) -> usize {
+    VIEWS.saturating_add(octets / VIEW_OCTETS)
 }
 
 /// Whether one of the views is the station's.

@@ -11,14 +11,14 @@ pub returns-clause-keeps : goal.returns-clause-keeps
 returns-clause-keeps c = λ left k.
     let e = c.args.self.now in
     let m = c.tick.result.0 in
-    let front : Left = λ counts. open_at m (k.front counts) in
+    let before : Left = λ counts. open_at m (k.before counts) in
     let some : 0 < length e.waiting.kept.items = omega (arith, c.in-Some.ensures.variant.0 refl, e.waiting.kept.ok.0) in
     record {
-      front = front;
-      views = c.release.ensures front (c.tick-2.ensures k.front k.views);
+      before = before;
+      views = c.release.ensures before (c.tick-2.ensures k.before k.views);
       pools = λ station.
           let counts = heard_packet station in
-          behind-ticked counts e.waiting c.in-Some.first.now (k.front counts) m some c.in-Some.ensures.lookup c.tick.ensures ∙ k.pools station;
-      opened = λ counts. All-filter (lasts m) (OpenedBy e.latest.0) (k.front counts) (k.opened counts);
-      kept = k.kept;
+          behind-ticked counts e.waiting c.in-Some.first.now (k.before counts) m some c.in-Some.ensures.lookup c.tick.ensures ∙ k.pools station;
+      opened = λ counts. All-filter (lasts m) (OpenedBy e.latest.0) (k.before counts) (k.opened counts);
+      waiting = k.waiting;
     }

@@ -21,7 +21,7 @@ returns-in_ok-keep c = λ records h.
     record {
       keeps = keeps-same heard (left_by (records ++ r ∷ [])) c.settle.new.self
           (λ station. event-open (left_by records (heard_packet station)) r (heard_packet station) ∙ sym (pools-next (heard_packet station) [] records r))
-          (c.settle.ensures.keeps heard (c.in_ok-keep.ensures.keeps passed (c.pass.ensures.keeps (left_by records) h.keeps) here));
+          (c.settle.ensures.keeps heard (c.in_ok-keep.ensures.keeps passed (c.pass.ensures.keeps (left_by records) h.keeps)));
       last = c.settle.ensures.last (fragments_of (records ++ r ∷ []))
           (subst (λ f. AreLast f c.keep.new.self.waiting.kept.items) (fragments-next records r here)
           (c.in_ok-keep.ensures.last (fragments_of records) (c.pass.ensures.last (fragments_of records) h.last)));

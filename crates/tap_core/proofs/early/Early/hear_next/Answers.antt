@@ -2,7 +2,7 @@
 use Rattle.std.proofs.Common.{◌≡◌, ◌<◌, ◌∷◌, ◌∙◌, fold, length, All, refl, sym, ap, subst, arith}
 use Rattle.std.proofs.lemmas.List.Elements.{All-head, All-tail}
 use Rattle.ip_core.specs.Pools.{open_at}
-use Rattle.tap_core.specs.Early.{after_kept, IsKept}
+use Rattle.tap_core.specs.Early.{after_waiting, CameBy}
 use Rattle.tap_core.specs.Frames.{heard_packet}
 use Rattle.tap_core.proofs.Kept.{kept-opened}
 use Rattle.tap_core.proofs.Waits.{first-of, last-left}
@@ -10,11 +10,11 @@ use Rattle.tap_core.proofs.early.Early.hear_next.Goals as goal
 
 pub returns-then-not-make_room-clause-keeps : goal.returns-then-not-make_room-clause-keeps
 returns-then-not-make_room-clause-keeps c = λ left k. record {
-  front = k.front;
-  views = c.make_room.ensures.left k.front k.views;
+  before = k.before;
+  views = c.make_room.ensures.left k.before k.views;
   pools = k.pools;
   opened = k.opened;
-  kept = k.kept;
+  waiting = k.waiting;
 }
 
 pub returns-clause-keeps : goal.returns-clause-keeps
@@ -24,16 +24,16 @@ returns-clause-keeps c = λ left k.
     let rest = c.leave.new.self.kept.items in
     let some : 0 < length e.waiting.kept.items = omega (arith, c.in-Some.ensures.variant.0 refl, e.waiting.kept.ok.0) in
     let items : e.waiting.kept.items ≡ f ∷ rest = first-of e.waiting.kept.items f some c.in-Some.ensures.lookup ∙ ap (λ l. f ∷ l) (sym c.leave.ensures.kept) in
-    let kept : All (IsKept e.latest.0) (f ∷ rest) = subst (All (IsKept e.latest.0)) items k.kept in
+    let kept : All (CameBy e.latest.0) (f ∷ rest) = subst (All (CameBy e.latest.0)) items k.waiting in
     record {
-      front = λ counts. after_kept counts (k.front counts) f;
-      views = c.hear.ensures k.front (c.make_room.ensures.left k.front k.views);
+      before = λ counts. after_waiting counts (k.before counts) f;
+      views = c.shrink.ensures (λ counts. after_waiting counts (k.before counts) f) (c.hear.ensures k.before (c.make_room.ensures.left k.before k.views));
       pools = λ station.
           let counts = heard_packet station in
-          ap (λ t. open_at t.0 (fold (after_kept counts) (k.front counts) (f ∷ rest))) c.leave.ensures.passed
-          ∙ ap (λ l. open_at e.waiting.passed.0 (fold (after_kept counts) (k.front counts) l)) (sym items) ∙ k.pools station;
-      opened = λ counts. kept-opened counts e.latest.0 (k.front counts) f (All-head (IsKept e.latest.0) f rest kept) (k.opened counts);
-      kept = All-tail (IsKept e.latest.0) f rest kept;
+          ap (λ t. open_at t.0 (fold (after_waiting counts) (k.before counts) (f ∷ rest))) c.leave.ensures.passed
+          ∙ ap (λ l. open_at e.waiting.passed.0 (fold (after_waiting counts) (k.before counts) l)) (sym items) ∙ k.pools station;
+      opened = λ counts. kept-opened counts e.latest.0 (k.before counts) f (All-head (CameBy e.latest.0) f rest kept) (k.opened counts);
+      waiting = All-tail (CameBy e.latest.0) f rest kept;
     }
 
 pub returns-clause-last : goal.returns-clause-last

@@ -2,7 +2,7 @@
 use Rattle.std.proofs.Common.{◌≡◌, ◌≤◌, ◌-◌, ◌∙◌, ℕ, List, [], fold, All, Option, sym, ap, subst, arith}
 use Rattle.ip_core.specs.Pools.{lifetime, open_at}
 use Rattle.wire_ip4.specs.Packet.{Packet}
-use Rattle.tap_core.specs.Early.{after_kept, IsKept, OpenedBy}
+use Rattle.tap_core.specs.Early.{after_waiting, CameBy, OpenedBy}
 use Rattle.tap_core.specs.Frames.{heard_packet}
 use Rattle.std.proofs.lemmas.List.Elements.{All-nil}
 use Rattle.tap_core.proofs.Kept.{behind-fades, fades}
@@ -14,17 +14,17 @@ returns-clause-keeps c = λ left k.
     let e = c.args.self.now in
     let now = c.args.now.0 in
     let over : lifetime ≤ now - e.latest.0 = omega (arith, c.if-saturating_sub-lt-LIFETIME.false, c.saturating_sub.ensures) in
-    let faded : (counts : List ℕ → Option Packet) → open_at now (k.front counts) ≡ [] = λ counts. fades e.latest.0 now (k.front counts) over (k.opened counts) in
+    let faded : (counts : List ℕ → Option Packet) → open_at now (k.before counts) ≡ [] = λ counts. fades e.latest.0 now (k.before counts) over (k.opened counts) in
     record {
-      front = λ counts. open_at now (k.front counts);
-      views = c.tick.ensures k.front k.views;
+      before = λ counts. open_at now (k.before counts);
+      views = c.close.ensures k.before k.views faded;
       pools = λ station.
           let counts = heard_packet station in
-          ap (λ l. open_at c.forget.new.self.passed.0 (fold (after_kept counts) (open_at now (k.front counts)) l)) c.forget.ensures.kept
+          ap (λ l. open_at c.forget.new.self.passed.0 (fold (after_waiting counts) (open_at now (k.before counts)) l)) c.forget.ensures.kept
           ∙ ap (open_at c.forget.new.self.passed.0) (faded counts)
-          ∙ sym (ap (open_at now) (sym (k.pools station)) ∙ behind-fades counts e.waiting (k.front counts) e.latest.0 now over (k.opened counts) k.kept);
+          ∙ sym (ap (open_at now) (sym (k.pools station)) ∙ behind-fades counts e.waiting (k.before counts) e.latest.0 now over (k.opened counts) k.waiting);
       opened = λ counts. subst (All (OpenedBy 0)) (sym (faded counts)) (All-nil (OpenedBy 0));
-      kept = subst (All (IsKept 0)) (sym c.forget.ensures.kept) (All-nil (IsKept 0));
+      waiting = subst (All (CameBy 0)) (sym c.forget.ensures.kept) (All-nil (CameBy 0));
     }
 
 pub returns-clause-last : goal.returns-clause-last

@@ -8,5 +8,5 @@ pub returns : goal.returns
 returns c = λ records h.
     let station = c.args.station.0 in
     c.hear.ensures
-    ∙ ap (pools_behind (heard_packet station) c.args.self.now.waiting) (c.in_ok-pools.ensures h.keeps.front h.keeps.views)
+    ∙ ap (pools_behind (heard_packet station) c.args.self.now.waiting) (c.in_ok-pools.ensures h.keeps.before h.keeps.views)
     ∙ h.keeps.pools station

@@ -17,9 +17,10 @@ pub record IsSlot (s : slot.Inside) : Type 0 where
   pub from_start : s.window.taken ≡ 0
   pub end_within : IsWithin s.end
 
--- each slot is open or free, there is memory to move any of them from one list to the other, and room for a datagram
+-- each slot is open or free, there is memory to move any of them from one list to the other, and for the octets of a datagram
 pub record IsReasm (r : reasm.Inside) : Type 0 where
   pub slots : length r.pools.items + length r.free.items ≡ most_pools
   pub pools_memory : most_pools ≤ vec_capacity r.pools
   pub free_memory : most_pools ≤ vec_capacity r.free
-  pub room : length r.room.items ≡ most_bytes
+  pub room : length r.room.items ≤ most_bytes
+  pub room_memory : most_bytes ≤ vec_capacity r.room

@@ -53,7 +53,7 @@ impl Reasm {
     {
         let pools = Vec::with_capacity(alloc, POOLS)?;
         let free = free_slots(alloc, POOLS)?;
-        let room = zeros(alloc)?;
+        let room = Vec::with_capacity(alloc, MOST_OCTETS as usize)?;
         Ok(Reasm { pools, free, room })
     }
 
@@ -64,7 +64,7 @@ impl Reasm {
     {
         let pools = clones(alloc, &self.pools)?;
         let free = free_slots(alloc, POOLS - pools.len())?;
-        let room = zeros(alloc)?;
+        let room = Vec::with_capacity(alloc, MOST_OCTETS as usize)?;
         Ok(Reasm { pools, free, room })
     }
 
@@ -162,15 +162,6 @@ fn clones(alloc: Global, pools: &[Slot]) -> Result<Vec<Slot>, NoMemory>
     Ok(slots)
 }
 
-/// Room for a datagram's payload.
-fn zeros(alloc: Global) -> Result<Vec<u8>, NoMemory>
-    ensures { IfOk result (λ room. length room.items ≡ most_bytes) }
-{
-    let mut room = Vec::new(alloc);
-    room.resize(MOST_OCTETS as usize, 0)?;
-    Ok(room)
-}
-
 /// Closes the pool at a place.
 fn close(pools: &mut Vec<Slot>, free: &mut Vec<Slot>, place: usize)
     requires place { place < vec_len pools.old }
@@ -254,16 +245,19 @@ fn are_same(pools: &[Slot], others: &[Slot]) -> bool
 fn join(
     pools: &mut Vec<Slot>,
     free: &mut Vec<Slot>,
-    room: &mut [u8],
+    room: &mut Vec<u8>,
     now: u64,
     f: &Ip,
 ) -> Option<usize>
     requires slots { vec_len pools.old + vec_len free.old ≡ most_pools }
     requires pools_memory { most_pools ≤ vec_capacity pools.old }
     requires free_memory { most_pools ≤ vec_capacity free.old }
-    requires room { length room.old ≡ most_bytes }
-    ensures bytes { option_map (λ n. take n room.new) result ≡ joined bytes_kept pools.old.items (packet_seen f.now) }
-    ensures fits { IfSome result (λ n. n ≤ most_bytes) }
+    requires room { vec_len room.old ≤ most_bytes }
+    requires room_memory { most_bytes ≤ vec_capacity room.old }
+    ensures bytes { option_map (λ n. take n room.new.items) result ≡ joined bytes_kept pools.old.items (packet_seen f.now) }
+    ensures fits { IfSome result (λ n. n ≤ vec_len room.new) }
+    ensures room { vec_len room.new ≤ most_bytes }
+    ensures room_memory { most_bytes ≤ vec_capacity room.new }
     ensures pools { pools.new.items ≡ after_fragment bytes_kept now pools.old.items (packet_seen f.now) }
     ensures slots { vec_len pools.new + vec_len free.new ≡ most_pools }
     ensures pools_memory { most_pools ≤ vec_capacity pools.new }
@@ -289,17 +283,20 @@ fn join(
 fn join_at(
     pools: &mut Vec<Slot>,
     free: &mut Vec<Slot>,
-    room: &mut [u8],
+    room: &mut Vec<u8>,
     place: usize,
     f: &Ip,
 ) -> Option<usize>
     requires place { place < vec_len pools.old }
     requires reach { f.now.place + length f.now.payload.now ≤ most_bytes }
     requires memory { vec_len free.old < vec_capacity free.old }
-    requires room { length room.old ≡ most_bytes }
-    ensures bytes { (d : Pool Bytes) → option_map (λ n. take n room.new) result
+    requires room { vec_len room.old ≤ most_bytes }
+    requires room_memory { most_bytes ≤ vec_capacity room.old }
+    ensures bytes { (d : Pool Bytes) → option_map (λ n. take n room.new.items) result
         ≡ bytes_kept.whole (bytes_with (slice_index_or pools.old.items place d).kept (packet_seen f.now)) }
-    ensures fits { IfSome result (λ n. n ≤ most_bytes) }
+    ensures fits { IfSome result (λ n. n ≤ vec_len room.new) }
+    ensures room { vec_len room.new ≤ most_bytes }
+    ensures room_memory { most_bytes ≤ vec_capacity room.new }
     ensures pools { (d : Pool Bytes) → let pool = slice_index_or pools.old.items place d in pools.new.items
         ≡ (if is_some result then remove pools.old.items place
         else slice_set pools.old.items place (record { key = pool.key; opened = pool.opened; kept = bytes_with pool.kept (packet_seen f.now) })) }

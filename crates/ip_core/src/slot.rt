@@ -1,5 +1,6 @@
 //! The memory of one pool: the bytes of one datagram's fragments by their places (RFC 791, section 3.2).
-ghost use Rattle.std.specs.Prelude.{◌≡◌, ◌+◌, ◌≤◌, true, length, take, IfOk, IfSome, IfNone, option_map};
+ghost use Rattle.std.specs.Prelude.{◌≡◌, ◌+◌, ◌≤◌, true, length, take, IfOk, IfSome, IfNone, option_map, vec_len};
+ghost use Rattle.std.specs.Vec.{vec_capacity};
 ghost use Rattle.wire_ip4.specs.Seen.{packet_seen};
 ghost use Rattle.ip_core.specs.Pools.{Pool, key_of, is_key, is_of, lasts, most_bytes};
 ghost use Rattle.ip_core.specs.Bytes.{Bytes, bytes_kept, bytes_with, end_with};
@@ -129,12 +130,16 @@ impl Slot {
         self.end = end_with(self.end, f);
     }
 
-    /// Moves the octets below the end into the room, where they are there without a gap, and says how many they are.
-    pub fn take_whole(&mut self, room: &mut [u8]) -> Option<usize>
-        requires { length room.old ≡ most_bytes }
-        ensures bytes { option_map (λ n. take n room.new) result ≡ bytes_kept.whole self.old.kept }
-        ensures fits { IfSome result (λ n. n ≤ most_bytes) }
+    /// Moves the octets below the end into the room, where they are there without a gap, and says how many they are. The room
+    /// becomes as long as it has to be, within its memory.
+    pub fn take_whole(&mut self, room: &mut Vec<u8>) -> Option<usize>
+        requires most { vec_len room.old ≤ most_bytes }
+        requires memory { most_bytes ≤ vec_capacity room.old }
+        ensures bytes { option_map (λ n. take n room.new.items) result ≡ bytes_kept.whole self.old.kept }
+        ensures fits { IfSome result (λ n. n ≤ vec_len room.new) }
         ensures kept { IfNone result (self.new ≡ self.old) }
+        ensures most { vec_len room.new ≤ most_bytes }
+        ensures memory { most_bytes ≤ vec_capacity room.new }
     {
         let Some(end) = self.end else {
             return None;
@@ -142,9 +147,24 @@ impl Slot {
         if self.window.ready() < end {
             return None;
         }
+        reach(room, end as usize);
         self.window.take(room);
         self.window.clear(MOST_OCTETS);
         Some(end as usize)
+    }
+}
+
+/// Makes a room long enough for so many octets. It takes no memory: there is enough for a whole datagram.
+fn reach(room: &mut Vec<u8>, len: usize)
+    requires within { len ≤ most_bytes }
+    requires most { vec_len room.old ≤ most_bytes }
+    requires memory { most_bytes ≤ vec_capacity room.old }
+    ensures enough { len ≤ vec_len room.new }
+    ensures most { vec_len room.new ≤ most_bytes }
+    ensures memory { most_bytes ≤ vec_capacity room.new }
+{
+    if room.len() < len {
+        let _ = room.resize(len, 0);
     }
 }
 

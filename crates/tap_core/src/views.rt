@@ -18,7 +18,7 @@ use std::alloc::Global;
 use wire_link::read_ether;
 
 /// How many stations' pools may be kept apart, whatever waits: as many as there are pools, each of which a sender may leave
-/// open. A view takes memory for all its pools, some 1.2 MB; of that 0.3 MB is in use at once, and what its open pools hold.
+/// open. A view takes memory for all its pools, some 1.2 MB; of that 0.2 MB is in use at once, and what its open pools hold.
 const VIEWS: usize = POOLS;
 
 /// For how many octets of memory that wait one more may be kept apart.

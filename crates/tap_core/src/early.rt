@@ -57,12 +57,13 @@ impl Early {
     }
 
     /// The pools of this station.
-    pub fn pools(&self, alloc: Global, station: Mac) -> Result<Reasm, NoMemory>
-        ensures { (records : List Record) → KeepsFragments records self.now → IfOk result (λ pools. pools ≡ left_by records (heard_packet station.0)) }
+    pub fn into_pools(self, station: Mac) -> Reasm
+        ensures { (records : List Record) → KeepsFragments records self → result ≡ left_by records (heard_packet station.0) }
     {
-        let mut pools = self.views.pools(alloc, station)?;
-        self.waiting.hear(station, &mut pools);
-        Ok(pools)
+        let Early { views, waiting, .. } = self;
+        let mut pools = views.into_pools(station);
+        waiting.hear(station, &mut pools);
+        pools
     }
 
     /// A tick passes. Where each pool is over that a fragment can have opened, none waits any longer, and no station needs a view.

@@ -31,13 +31,15 @@ pub struct Listener {
 }
 
 /// The station that this segment shows, by what stands for the records that it has heard.
-pub fn listen(alloc: Global, syn: Syn, early: &Early, tally: &Tally) -> Result<Listener, NoMemory>
-    ensures syn { IfOk result (λ l. l.syn ≡ syn) }
-    ensures listens { (records : List Record) → KeepsFragments records early.now → Tallies records tally.now → IfOk result (Listens records) }
+pub fn listen(syn: Syn, early: Early, tally: &Tally) -> Listener
+    ensures syn { result.syn ≡ syn }
+    ensures listens { (records : List Record) → KeepsFragments records early → Tallies records tally.now → Listens records result }
 {
-    let reasm = early.pools(alloc, syn.station)?;
-    let counts = tally.counts(syn.station);
-    Ok(Listener { syn, reasm, counts })
+    Listener {
+        syn,
+        reasm: early.into_pools(syn.station),
+        counts: tally.counts(syn.station),
+    }
 }
 
 /// Hears a record, and answers the number of the segment that accepts the connection.

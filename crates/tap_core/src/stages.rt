@@ -90,7 +90,7 @@ fn hear_first(alloc: Global, waiting: Waiting, record: Record) -> Result<Stage, 
             tally,
         }));
     };
-    let listener = listen(alloc, syn, &early, &tally)?;
+    let listener = listen(syn, early, &tally);
     Ok(Stage::Answering(listener))
 }
 

@@ -171,16 +171,15 @@ impl Views {
         }
     }
 
-    /// The pools of a station.
-    pub fn pools(&self, alloc: Global, station: Mac) -> Result<Reasm, NoMemory>
-        ensures { (left : Left) → AreLeft left self.now.others self.now.apart.items → IfOk result (λ pools. pools ≡ left (heard_packet station.0)) }
+    /// The pools of a station. The memory of all other stations' is given back.
+    pub fn into_pools(self, station: Mac) -> Reasm
+        ensures { (left : Left) → AreLeft left self.others self.apart.items → result ≡ left (heard_packet station.0) }
     {
-        for view in &self.apart {
-            if view.is_of(station) {
-                return view.pools.try_clone(alloc);
-            }
+        let Views { others, mut apart } = self;
+        match find_view(&apart, station) {
+            Some(place) => apart.remove(place).pools,
+            None => others,
         }
-        self.others.try_clone(alloc)
     }
 }
 
@@ -194,6 +193,13 @@ fn has_view(views: &[View], station: Mac) -> bool
     ensures { result ≡ has_view station.0 views.now }
 {
     views.iter().any(|view| view.is_of(station))
+}
+
+/// Where the station's view is.
+fn find_view(views: &[View], station: Mac) -> Option<usize>
+    ensures { result ≡ position (is_view_of station.0) views.now }
+{
+    views.iter().position(|view| view.is_of(station))
 }
 
 /// Where a view is that is no station's.

@@ -5,6 +5,6 @@ use Rattle.tap_core.proofs.listening.listen.Goals as goal
 
 pub returns-clause-listens : goal.returns-clause-listens
 returns-clause-listens c = λ records early tally. record {
-  pools = c.in_ok-reasm.ensures records early;
-  counts = c.counts-counts.ensures records (syn_seen c.args.syn) tally refl;
+  pools = c.into_pools.ensures records early;
+  counts = c.counts.ensures records (syn_seen c.args.syn) tally refl;
 }

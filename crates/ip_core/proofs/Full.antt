@@ -6,7 +6,8 @@ use Rattle.std.proofs.lemmas.Bool.Decides.{nat_tests}
 use Rattle.wire_ip4.specs.Packet.{Packet}
 use Rattle.ip_core.specs.Bytes.{Bytes, bytes_kept}
 use Rattle.ip_core.specs.Pools.{Key, Pool, is_dropped, is_of, key_of, lasts, most_bytes, most_pools, open_at, reach_of}
-use Rattle.ip_core.proofs.Joining.{admitted, dropped-new, found-at, found-nowhere}
+use Rattle.ip_core.proofs.Finding.{not-found}
+use Rattle.ip_core.proofs.Joining.{admitted, dropped-new, found-at}
 
 all-stay : (x : Pool Bytes) (ys xs : List (Pool Bytes)) (here all : Bool) → (all ≡ true → ys ≡ xs) → (here && all) ≡ true → (if here then x ∷ ys else ys) ≡ x ∷ xs
 all-stay x ys xs true all h e = ap (λ l. x ∷ l) (h e)
@@ -59,7 +60,7 @@ dropped-full : (f : Packet) (pools : List (Pool Bytes)) (found : Option ℕ) →
     → position (is_of (key_of f)) pools ≡ found → is_none found ≡ is_dropped f pools
 dropped-full f pools None h full e =
     let all : most_pools ≤ length pools = grind (arith, nat_tests) in
-    sym (dropped-new f pools (found-nowhere bytes_kept (key_of f) pools e).there all)
+    sym (dropped-new f pools (not-found (is_of (key_of f)) pools e) all)
 dropped-full f pools (Some i) h full e = sym (admitted f pools h (found-at bytes_kept (key_of f) pools i e).there)
 
 -- one within them is dropped where all pools are open, and none is its key's

@@ -4,6 +4,7 @@ use Rattle.std.proofs.lemmas.Bool.Decides.{nat_tests}
 use Rattle.std.specs.List.{list_any, position, position_or_len, remove}
 use Rattle.wire_ip4.specs.Packet.{Packet}
 use Rattle.ip_core.specs.Bytes.{Bytes, bytes_kept, bytes_with}
+use Rattle.ip_core.proofs.Finding.{not-found, past-all}
 use Rattle.ip_core.specs.Pools.{Key, Pool, Keeping, key_of, is_of, reach_of, most_bytes, most_pools, is_dropped, kept_of, with_kept, without, kept_with, joined, after_fragment}
 
 -- the pool of a key, in the place where it stands
@@ -19,7 +20,6 @@ pub record IsAt {X : Type 0} (k : Keeping X) (key : Key) (pools : List (Pool X))
 
 -- no pool is the key's
 pub record IsNowhere {X : Type 0} (k : Keeping X) (key : Key) (pools : List (Pool X)) : Type 0 where
-  pub there : list_any (is_of key) pools ≡ false
   pub kept_is : kept_of k key pools ≡ k.nothing
   pub without_is : without key pools ≡ pools
   pub with_is : (now : ℕ) (x : X) → with_kept key now x pools ≡ pools ++ record { key = key; opened = now; kept = x } ∷ []
@@ -47,7 +47,6 @@ module _ {X : Type 0} (k : Keeping X) (key : Key) where
 
   nowhere-later : (pool : Pool X) (pools : List (Pool X)) → is_of key pool ≡ false → IsNowhere k key pools → IsNowhere k key (pool ∷ pools)
   nowhere-later pool pools e r = record {
-    there = ap (λ b. b || list_any (is_of key) pools) e ∙ r.there;
     kept_is = ap (λ b. cond b pool.kept (kept_of k key pools)) e ∙ r.kept_is;
     without_is = ap (λ b. cond b pools (pool ∷ without key pools)) e ∙ ap (λ l. pool ∷ l) r.without_is;
     with_is = λ now x. ap (λ b. cond b (pool_with pool x ∷ pools) (pool ∷ with_kept key now x pools)) e ∙ ap (λ l. pool ∷ l) (r.with_is now x);
@@ -80,16 +79,12 @@ module _ {X : Type 0} (k : Keeping X) (key : Key) where
       nowhere-later pool pools e (rest (omega (arith, later, p)))
 
   nowhere-place : (pools : List (Pool X)) → length pools ≤ position_or_len (is_of key) pools → IsNowhere k key pools
-  nowhere-place [] p = record { there = refl; kept_is = refl; without_is = refl; with_is = λ now x. refl }
+  nowhere-place [] p = record { kept_is = refl; without_is = refl; with_is = λ now x. refl }
   nowhere-place (pool ∷ pools) p = nowhere-cases pool pools (is_of key pool) (nowhere-place pools) refl p
 
 some-at : (b : Bool) (q i : ℕ) → cond b (Some q) None ≡ Some i → (b ≡ true) × (q ≡ i)
 some-at true q i e = (refl, ap (λ o. unwrap_or o 0) e)
 some-at false q i e = absurd (cc)
-
-none-at : (b : Bool) (q : ℕ) → cond b (Some q) None ≡ None → b ≡ false
-none-at true q e = absurd (cc)
-none-at false q e = refl
 
 pub found-at : {X : Type 0} (k : Keeping X) (key : Key) (pools : List (Pool X)) (i : ℕ) → position (is_of key) pools ≡ Some i → IsAt k key pools i
 found-at k key pools i e =
@@ -97,11 +92,9 @@ found-at k key pools i e =
     let less : position_or_len (is_of key) pools < length pools = grind (arith, nat_tests, s.0) in
     at-place k key pools i s.1 (omega (arith, less, s.1))
 
-pub found-nowhere : {X : Type 0} (k : Keeping X) (key : Key) (pools : List (Pool X)) → position (is_of key) pools ≡ None → IsNowhere k key pools
+found-nowhere : {X : Type 0} (k : Keeping X) (key : Key) (pools : List (Pool X)) → position (is_of key) pools ≡ None → IsNowhere k key pools
 found-nowhere k key pools e =
-    let s = none-at (nat_lt (position_or_len (is_of key) pools) (length pools)) (position_or_len (is_of key) pools) e in
-    let past : length pools ≤ position_or_len (is_of key) pools = grind (arith, nat_tests, s) in
-    nowhere-place k key pools past
+    nowhere-place k key pools (past-all (is_of key) pools e)
 
 -- a fragment within the places, of a key with a pool
 pub admitted : (f : Packet) (pools : List (Pool Bytes)) → reach_of f ≤ most_bytes → list_any (is_of (key_of f)) pools ≡ true → is_dropped f pools ≡ false
@@ -175,8 +168,8 @@ join-found g count now i seen pools after f key d same l e h b p =
 pub join-full : (g : ℕ → List ℕ) (now : ℕ) (seen pools : List (Pool Bytes)) (f : Packet) (key : Key)
     → key ≡ key_of f → seen ≡ pools → None ≡ position (is_of key) seen → most_pools ≤ length pools → IsJoined g None now pools pools f
 join-full g now seen pools f key same l e full =
-    let at = found-nowhere bytes_kept (key_of f) pools (sym (e ∙ ap (λ xs. position (is_of key) xs) l ∙ ap (λ x. position (is_of x) pools) same)) in
-    joined-dropped g now pools f (dropped-new f pools at.there full)
+    let none : list_any (is_of (key_of f)) pools ≡ false = not-found (is_of (key_of f)) pools (sym (e ∙ ap (λ xs. position (is_of key) xs) l ∙ ap (λ x. position (is_of x) pools) same)) in
+    joined-dropped g now pools f (dropped-new f pools none full)
 
 module _ {X : Type 0} where
   last-get : (xs : List X) (x d : X) (n : ℕ) → n ≡ length xs → get_or (xs ++ x ∷ []) n d ≡ x
@@ -205,7 +198,8 @@ pub join-new : (g : ℕ → List ℕ) (count : Option ℕ) (now i : ℕ) (seen p
     → after ≡ cond (is_some count) (remove opened i) (set opened i (pool_with (get_or opened i d) (bytes_with (get_or opened i d).kept f)))
     → IsJoined g count now pools after f
 join-new g count now i seen pools opened after f key d same l e h room last o b p =
-    let at = found-nowhere bytes_kept (key_of f) pools (sym (e ∙ ap (λ xs. position (is_of key) xs) l ∙ ap (λ x. position (is_of x) pools) same)) in
+    let out : position (is_of (key_of f)) pools ≡ None = sym (e ∙ ap (λ xs. position (is_of key) xs) l ∙ ap (λ x. position (is_of x) pools) same) in
+    let at = found-nowhere bytes_kept (key_of f) pools out in
     let fresh : Pool Bytes = record { key = key_of f; opened = now; kept = bytes_kept.nothing } in
     let kept : Bytes = bytes_with bytes_kept.nothing f in
     let o' : opened ≡ pools ++ fresh ∷ [] = o ∙ ap (λ x. pools ++ record { key = x; opened = now; kept = bytes_kept.nothing } ∷ []) same in
@@ -214,7 +208,7 @@ join-new g count now i seen pools opened after f key d same l e h room last o b 
     let removed : remove opened i ≡ pools = ap (λ l. remove l i) o' ∙ last-remove pools fresh i last in
     let written : set opened i (pool_with (get_or opened i d) (bytes_with (get_or opened i d).kept f)) ≡ pools ++ pool_with fresh kept ∷ [] =
     ap (λ x. set opened i (pool_with x (bytes_with x.kept f))) at_last ∙ ap (λ l. set l i (pool_with fresh kept)) o' ∙ last-set pools fresh (pool_with fresh kept) i last in
-    joined-kept g count now pools after pools (pools ++ pool_with fresh kept ∷ []) f kept (admitted-new f pools h at.there room) (ap (λ x. bytes_with x f) at.kept_is)
+    joined-kept g count now pools after pools (pools ++ pool_with fresh kept ∷ []) f kept (admitted-new f pools h (not-found (is_of (key_of f)) pools out) room) (ap (λ x. bytes_with x f) at.kept_is)
     at.without_is (at.with_is now kept) whole
     (p ∙ ap (λ l. cond (is_some count) l (set opened i (pool_with (get_or opened i d) (bytes_with (get_or opened i d).kept f)))) removed ∙ ap (λ l. cond (is_some count) pools l) written)
 

@@ -1,6 +1,7 @@
 pub mod Best
 pub mod Closing
 pub mod Filling
+pub mod Finding
 pub mod Full
 pub mod Joining
 pub mod Standings

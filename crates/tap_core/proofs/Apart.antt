@@ -1,13 +1,13 @@
 -- What holds of the views of stations, when one is taken or freed, and when fragments are heard.
-use Rattle.std.proofs.Common.{◌≡◌, ℕ, zero, suc, ◌+◌, ◌<◌, Bool, true, false, ◌||◌, List, [], ◌∷◌, ◌++◌, map, length, get_or, take, drop, remove, set, All, Option, Some, None, is_none, refl, sym, ap, subst, ◌∙◌, arith, cond, not, nat_lt, ◌≤◌}
+use Rattle.std.proofs.Common.{◌≡◌, ℕ, zero, suc, ◌+◌, ◌<◌, Bool, true, false, ◌||◌, List, [], ◌∷◌, ◌++◌, map, length, get_or, take, drop, remove, set, All, Option, Some, None, is_none, refl, sym, ap, subst, ◌∙◌, arith}
 use Rattle.std.specs.Bool.{Decides}
-use Rattle.std.specs.List.{list_any, position, position_or_len}
+use Rattle.std.specs.List.{list_any, position}
 use Rattle.std.specs.Str.{bytes_eq}
-use Rattle.std.proofs.lemmas.List.{drop-drop, drop-set-lt, get_or-drop, map_more, take_more_set}
+use Rattle.std.proofs.lemmas.List.{drop-drop, drop-set-lt, get_or-drop, map_more, take_more, take_more_set}
 use Rattle.std.proofs.lemmas.List.Elements.{All-head, All-tail, All-cons, All-append, All-get_or, All-nil, All-set}
 use Rattle.std.proofs.lemmas.List.Folds.{list_any-append}
 use Rattle.std.proofs.lemmas.Bool.{false≢true, true≢false}
-use Rattle.std.proofs.lemmas.Bool.Decides.{nat_tests}
+use Rattle.ip_core.proofs.Finding.{not-found}
 use Rattle.std.proofs.lemmas.Slice.Eq.{bytes_eq-Decides}
 use Rattle.efi_base.specs.declared.plain.Mac.{Mac}
 use Rattle.wire_ip4.specs.Packet.{Packet}
@@ -15,7 +15,7 @@ use Rattle.ip_core.specs.Pools.{Pool, open_at}
 use Rattle.ip_core.specs.Bytes.{Bytes}
 use Rattle.tap_core.specs.declared.fragments.Fragment.{Fragment}
 use Rattle.tap_core.specs.declared.views.View.{View}
-use Rattle.tap_core.specs.Early.{after_waiting, has_view, is_view_of, packets_of, view_after, view_at, view_with, AreAlike, AreLeft, IsLeft, Left}
+use Rattle.tap_core.specs.Early.{after_waiting, has_view, is_view_of, packets_of, view_after, view_at, view_with, AreAlike, AreLeft, IsFreed, IsLeft, Left}
 use Rattle.tap_core.specs.Frames.{heard_packet}
 
 or-left : (x y : Bool) → (x || y) ≡ false → x ≡ false
@@ -230,24 +230,20 @@ pub found-left : (left : Left) (others : List (Pool Bytes)) (views : List View) 
     → is_view_of station (get_or views i d) ≡ true → (get_or views i d).pools ≡ left (heard_packet station)
 found-left left others views i d station l h here = view-left left station (get_or views i d) here (All-get_or (IsLeft left) views i d l h.each)
 
-none-by : (b : Bool) (n : ℕ) → cond b (Some n) None ≡ None → b ≡ false
-none-by true n h = absurd (cc)
-none-by false n h = refl
-
-nowhere-first : (p : View → Bool) (x : View) (xs : List View) (here : Bool) → p x ≡ here → (length xs ≤ position_or_len p xs → list_any p xs ≡ false)
-    → length (x ∷ xs) ≤ cond (not here) (1 + position_or_len p xs) 0 → (here || list_any p xs) ≡ false
-nowhere-first p x xs true e rest h = absurd (omega (arith, h))
-nowhere-first p x xs false e rest h = rest (omega (arith, h))
-
-nowhere : (p : View → Bool) (xs : List View) → length xs ≤ position_or_len p xs → list_any p xs ≡ false
-nowhere p [] h = refl
-nowhere p (x ∷ xs) h = nowhere-first p x xs (p x) refl (nowhere p xs) h
-
 -- what is left to one whose view isn't there
 pub nowhere-left : (left : Left) (others : List (Pool Bytes)) (views : List View) (station : List ℕ) → AreLeft left others views
     → position (is_view_of station) views ≡ None → others ≡ left (heard_packet station)
-nowhere-left left others views station h e =
-    let p = is_view_of station in
-    let s = none-by (nat_lt (position_or_len p views) (length views)) (position_or_len p views) e in
-    let past : length views ≤ position_or_len p views = grind (arith, nat_tests, s) in
-    h.others_are ∙ sym (h.rest station (nowhere p views past))
+nowhere-left left others views station h e = h.others_are ∙ sym (h.rest station (not-found (is_view_of station) views e))
+
+-- those in front of a place are freed, and the one there
+pub freed-more : (others : List (Pool Bytes)) (views : List View) (i : ℕ) (d : View) → i < length views → All (IsFreed others) (take i views)
+    → IsFreed others (get_or views i d) → All (IsFreed others) (take (i + 1) views)
+freed-more others views i d l front here =
+    subst (All (IsFreed others)) (sym (take_more views i d l))
+    (All-append (IsFreed others) (take i views) (get_or views i d ∷ []) front (All-cons (IsFreed others) (get_or views i d) [] here (All-nil (IsFreed others))))
+
+pub freed-set : (others : List (Pool Bytes)) (views : List View) (i : ℕ) (x : View) → i < length views → All (IsFreed others) (take i views)
+    → x.station ≡ None → All (IsFreed others) (take (i + 1) (set views i x))
+freed-set others views i x l front none =
+    subst (All (IsFreed others)) (sym (take_more_set views i x l))
+    (All-append (IsFreed others) (take i views) (x ∷ []) front (All-cons (IsFreed others) x [] (λ same. none) (All-nil (IsFreed others))))

@@ -33,6 +33,7 @@ keeps-same a b e same k = record {
   pools = λ station. k.pools station ∙ same station;
   opened = k.opened;
   waiting = k.waiting;
+  counted = k.counted;
 }
 
 -- a pool that opened by a tick opened by a later one

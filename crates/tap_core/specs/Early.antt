@@ -1,13 +1,13 @@
 -- What is kept of the records in front of the segment that asks for a connection, while no station is known: the pools that
 -- fragments left open to stations that sent some of them, each apart, and those that they left to all others alike.
-use Rattle.std.specs.Prelude.{◌≡◌, ◌⊎◌, ℕ, ◌-◌, ◌≤◌, ◌<◌, max, nat_lt, Bool, false, List, [], ◌++◌, filter, map, fold, All, Option, Some, None, if◌then◌else◌}
-use Rattle.std.specs.List.{list_any}
+use Rattle.std.specs.Prelude.{◌≡◌, ◌⊎◌, ℕ, ◌-◌, ◌≤◌, ◌<◌, max, nat_lt, Bool, false, List, [], ◌++◌, filter, map, fold, All, Option, Some, None, if◌then◌else◌, ◌+◌, ◌/◌, length, is_none}
+use Rattle.std.specs.List.{list_any, sum_by}
 use Rattle.std.specs.Option.{option_map_or}
 use Rattle.std.specs.Str.{bytes_eq}
 use Rattle.efi_base.specs.declared.plain.Mac.{Mac}
 use Rattle.efi_base.specs.declared.plain.Record.{Record}
 use Rattle.wire_ip4.specs.Packet.{Packet, packet_of, is_fragment}
-use Rattle.ip_core.specs.Pools.{Pool, is_dropped, lifetime, open_at}
+use Rattle.ip_core.specs.Pools.{Pool, is_dropped, lifetime, most_pools, open_at}
 use Rattle.ip_core.specs.Bytes.{Bytes, bytes_kept}
 use Rattle.ip_core.specs.Datagrams.{after_event}
 use Rattle.ip_core.specs.Frames.{event_of, packet_in_frame}
@@ -76,6 +76,26 @@ pub record AreLeft (left : Left) (others : List (Pool Bytes)) (views : List View
   pub each : All (IsLeft left) views
   pub rest : (station : List ℕ) → has_view station views ≡ false → left (heard_packet station) ≡ left (packets_of None)
 
+-- how many octets of memory a fragment takes, roughly: those of its frame, and 64 beside them
+abbrev pub octets_of : Record → ℕ
+octets_of r = length r.frame + 64
+
+-- the octets that are told of fragments that wait are theirs
+abbrev pub AreCounted : Fragments → Type 0
+AreCounted f = f.octets ≡ sum_by (λ k. octets_of k.record) f.kept.items
+
+-- how many stations' pools may be kept apart while so many octets wait: 16, and one more for each 262,144
+abbrev pub most_views : ℕ → ℕ
+most_views octets = most_pools + octets / 262144
+
+-- the view is no station's
+abbrev pub is_spare : View → Bool
+is_spare v = is_none v.station
+
+-- a view that has the pools of the others is no station's
+abbrev pub IsFreed : List (Pool Bytes) → View → Type 0
+IsFreed others v = v.pools ≡ others → v.station ≡ None
+
 -- this station didn't send the record
 abbrev pub IsNotFrom : List ℕ → Record → Type 0
 IsNotFrom station r = is_sent station r.frame ≡ false
@@ -101,13 +121,14 @@ abbrev pub CameBy : ℕ → Fragment → Type 0
 CameBy tick f = f.record.tick.0 ≤ tick
 
 -- Whoever is the station, this is left to it: the views have some pools, from which the fragments that wait make what is left. None of
--- the pools in the views opened later than the latest tick, and no fragment that waits has a later one.
+-- the pools in the views opened later than the latest tick, and no fragment that waits has a later one; their octets are counted.
 pub record Keeps (left : Left) (e : Early) : Type 0 where
   pub before : Left
   pub views : AreLeft before e.views.others e.views.apart.items
   pub pools : (station : List ℕ) → pools_behind (heard_packet station) e.waiting (before (heard_packet station)) ≡ left (heard_packet station)
   pub opened : (counts : List ℕ → Option Packet) → All (OpenedBy e.latest.0) (before counts)
   pub waiting : All (CameBy e.latest.0) e.waiting.kept.items
+  pub counted : AreCounted e.waiting
 
 -- the latest tick once this one has passed: 0 where a pool that opened at it would be over
 abbrev pub latest_at : ℕ → ℕ → ℕ

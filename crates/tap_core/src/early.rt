@@ -1,17 +1,17 @@
 //! What is kept of the records in front of the segment that asks for a connection. Which station hears their fragments shows
 //! only with that segment, so the pools are kept that they left open to their senders, and to all others. Where that is too
 //! many a fragment waits, and all behind it. How pools are kept apart isn't here.
-ghost use Rattle.std.specs.Prelude.{◌≡◌, ◌<◌, ◌∷◌, ◌++◌, [], true, false, max, List, ℕ, IfOk, OnOk};
+ghost use Rattle.std.specs.Prelude.{◌≡◌, ◌<◌, ◌∷◌, ◌++◌, [], true, false, max, List, ℕ, IfOk, OnOk, ◌≤◌, vec_len};
 ghost use Rattle.std.specs.VecDeque.{deque_len};
 ghost use Rattle.efi_base.specs.declared.plain.Record.{Record};
 ghost use Rattle.ip_core.specs.Bytes.{bytes_kept};
 ghost use Rattle.ip_core.specs.Datagrams.{after_event};
 ghost use Rattle.ip_core.specs.Frames.{event_of};
 ghost use Rattle.ip_core.specs.Pools.{open_at};
-ghost use Rattle.tap_core.specs.Early.{AreLast, AreRecent, Keeps, KeepsFragments, Left, holds_fragment, latest_at, left_by};
+ghost use Rattle.tap_core.specs.Early.{AreLast, AreRecent, Keeps, KeepsFragments, Left, holds_fragment, latest_at, left_by, most_views};
 ghost use Rattle.tap_core.specs.Frames.{heard_packet};
 
-use crate::fragments::{Fragments, octets_of};
+use crate::fragments::Fragments;
 use crate::packets::holds_fragment;
 use crate::views::{Views, most_views};
 use efi_base::{Mac, NoMemory, Record, Tick};
@@ -91,8 +91,10 @@ impl Early {
         ensures latest { OnOk result (self.new.latest.0 ≡ max self.old.latest.0 «record».tick.0) }
     {
         let tick = record.tick;
-        self.budget = self.budget.saturating_add(octets_of(&record));
+        let waited = self.waiting.octets();
         self.waiting.keep(record)?;
+        let more = self.waiting.octets().saturating_sub(waited);
+        self.budget = self.budget.saturating_add(more);
         self.latest = Tick(self.latest.0.max(tick.0));
         Ok(())
     }
@@ -112,6 +114,7 @@ impl Early {
         ensures last { (fragments : List Record) → AreLast fragments self.old.waiting.kept.items → AreLast fragments self.new.waiting.kept.items }
         ensures latest { self.new.latest ≡ self.old.latest }
         ensures budget { self.new.budget ≡ self.old.budget }
+        ensures few { vec_len self.new.views.apart ≤ max (vec_len self.old.views.apart) (most_views self.old.waiting.octets) }
         ensures fewer { result ≡ true → deque_len self.new.waiting.kept < deque_len self.old.waiting.kept }
         ensures same { result ≡ false → deque_len self.new.waiting.kept ≡ deque_len self.old.waiting.kept }
     {

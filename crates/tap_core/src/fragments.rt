@@ -1,12 +1,12 @@
 //! Fragments that wait to be heard, and what they do to the pools of a station. Why they wait isn't here.
-ghost use Rattle.std.specs.Prelude.{◌≡◌, ◌∷◌, ◌++◌, [], drop, List, ℕ, Option, OnOk};
+ghost use Rattle.std.specs.Prelude.{◌≡◌, ◌∷◌, ◌++◌, [], drop, List, ℕ, Option, OnOk, ◌+◌, ◌-◌, IfOk};
 ghost use Rattle.efi_base.specs.declared.plain.Record.{Record};
 ghost use Rattle.wire_ip4.specs.Packet.{Packet};
 ghost use Rattle.ip_core.specs.Bytes.{Bytes, bytes_kept};
 ghost use Rattle.ip_core.specs.Datagrams.{after_event};
 ghost use Rattle.ip_core.specs.Frames.{event_of};
 ghost use Rattle.ip_core.specs.Pools.{Pool, open_at};
-ghost use Rattle.tap_core.specs.Early.{after_waiting, tick_of, packets_of, pools_behind};
+ghost use Rattle.tap_core.specs.Early.{AreCounted, after_waiting, octets_of, packets_of, pools_behind, tick_of};
 ghost use Rattle.tap_core.specs.Frames.{heard_packet};
 
 use crate::packets::read_packet;
@@ -62,6 +62,7 @@ impl Fragments {
     pub fn new(alloc: Global) -> Fragments
         ensures kept { result.kept.items ≡ [] }
         ensures passed { result.passed.0 ≡ 0 }
+        ensures counted { AreCounted result }
     {
         Fragments {
             kept: VecDeque::new(alloc),
@@ -74,6 +75,7 @@ impl Fragments {
     pub fn pass(&mut self, now: Tick)
         ensures left { (counts : List ℕ → Option Packet) (pools : List (Pool Bytes)) → pools_behind counts self.new pools ≡ open_at now.0 (pools_behind counts self.old pools) }
         ensures kept { self.new.kept ≡ self.old.kept }
+        ensures octets { self.new.octets ≡ self.old.octets }
     {
         self.passed = Tick(now.0.max(self.passed.0));
     }
@@ -83,12 +85,13 @@ impl Fragments {
         ensures left { OnOk result ((counts : List ℕ → Option Packet) (pools : List (Pool Bytes))
             → pools_behind counts self.new pools ≡ after_event bytes_kept (pools_behind counts self.old pools) (event_of counts «record»)) }
         ensures kept { OnOk result (self.new.kept.items ≡ self.old.kept.items ++ record { passed = self.old.passed; «record» = «record» } ∷ []) }
+        ensures counted { AreCounted self.old → OnOk result (AreCounted self.new) }
     {
         let passed = self.passed;
-        let octets = octets_of(&record);
+        let octets = octets_with(self.octets, &record)?;
         self.kept.push_back(Fragment { passed, record })?;
         self.passed = Tick(0);
-        self.octets = self.octets.saturating_add(octets);
+        self.octets = octets;
         Ok(())
     }
 
@@ -96,15 +99,17 @@ impl Fragments {
     pub fn leave(&mut self)
         ensures kept { self.new.kept.items ≡ drop 1 self.old.kept.items }
         ensures passed { self.new.passed ≡ self.old.passed }
+        ensures counted { AreCounted self.old → AreCounted self.new }
     {
         if let Some(first) = self.kept.pop_front() {
-            let octets = octets_of(&first.record);
-            self.octets = self.octets.saturating_sub(octets);
+            self.octets = octets_without(self.octets, &first.record);
         }
     }
 
     /// How many octets of memory they take, roughly.
-    pub fn octets(&self) -> usize {
+    pub fn octets(&self) -> usize
+        ensures { result ≡ self.now.octets }
+    {
         self.octets
     }
 
@@ -112,6 +117,7 @@ impl Fragments {
     pub fn forget(&mut self)
         ensures kept { self.new.kept.items ≡ [] }
         ensures passed { self.new.passed.0 ≡ 0 }
+        ensures counted { AreCounted self.new }
     {
         self.kept.clear();
         self.passed = Tick(0);
@@ -129,7 +135,24 @@ impl Fragments {
     }
 }
 
-/// How many octets of memory a fragment takes, roughly.
-pub fn octets_of(record: &Record) -> usize {
-    record.frame.len().saturating_add(BESIDE)
+/// So many octets, and those that a fragment takes. There is no memory for as many as don't fit the type.
+fn octets_with(octets: usize, record: &Record) -> Result<usize, NoMemory>
+    ensures { IfOk result (λ n. n ≡ octets + octets_of «record».now) }
+{
+    let Some(with_frame) = octets.checked_add(record.frame.len()) else {
+        return Err(NoMemory);
+    };
+    match with_frame.checked_add(BESIDE) {
+        Some(all) => Ok(all),
+        None => Err(NoMemory),
+    }
+}
+
+/// So many octets, without those that a fragment takes.
+fn octets_without(octets: usize, record: &Record) -> usize
+    ensures { result ≡ octets - octets_of «record».now }
+{
+    octets
+        .saturating_sub(record.frame.len())
+        .saturating_sub(BESIDE)
 }

@@ -1,13 +1,13 @@
 //! The pools that fragments left open to stations, before one of them is known to be the one that is watched: each station
 //! hears all fragments but its own. What they do to pools isn't here.
-ghost use Rattle.std.specs.Prelude.{◌≡◌, [], true, false, List, ℕ, IfOk, None, Option, is_none, map};
-ghost use Rattle.std.specs.List.{position};
+ghost use Rattle.std.specs.Prelude.{◌≡◌, [], true, false, List, ℕ, IfOk, None, Option, is_none, map, ◌+◌, ◌<◌, ◌≤◌, max, All, vec_len};
+ghost use Rattle.std.specs.List.{list_any, position};
 ghost use Rattle.std.specs.Str.{bytes_eq};
 ghost use Rattle.efi_base.specs.declared.plain.Record.{Record};
 ghost use Rattle.wire_ip4.specs.Packet.{Packet};
 ghost use Rattle.ip_core.specs.Pools.{open_at};
 ghost use Rattle.tap_core.specs.declared.views.View.{View};
-ghost use Rattle.tap_core.specs.Early.{AreAlike, AreLeft, IsNotFrom, Left, after_waiting, has_view, drops, is_view_of, packets_of, view_after, view_at};
+ghost use Rattle.tap_core.specs.Early.{AreAlike, AreLeft, IsFreed, IsNotFrom, Left, after_waiting, drops, has_view, is_spare, is_view_of, most_views, packets_of, view_after, view_at};
 ghost use Rattle.tap_core.specs.Frames.{heard_packet};
 
 use crate::fragments::Fragment;
@@ -82,8 +82,9 @@ impl Views {
     /// Each station hears a fragment that it didn't send. Whoever has no view has to be left the same by it.
     pub fn hear(&mut self, fragment: &Fragment)
         requires { AreAlike fragment.now self.old.others self.old.apart.items }
-        ensures { (left : Left) → AreLeft left self.old.others self.old.apart.items
+        ensures left { (left : Left) → AreLeft left self.old.others self.old.apart.items
             → AreLeft (λ counts. after_waiting counts (left counts) fragment.now) self.new.others self.new.apart.items }
+        ensures count { vec_len self.new.apart ≡ vec_len self.old.apart }
     {
         fragment.hear(None, &mut self.others);
         hear_each(&mut self.apart, fragment);
@@ -94,6 +95,7 @@ impl Views {
     pub fn make_room(&mut self, alloc: Global, fragment: &Fragment, most: usize) -> bool
         ensures left { (left : Left) → AreLeft left self.old.others self.old.apart.items → AreLeft left self.new.others self.new.apart.items }
         ensures alike { result ≡ true → AreAlike fragment.now self.new.others self.new.apart.items }
+        ensures few { vec_len self.new.apart ≤ max (vec_len self.old.apart) most }
     {
         self.drops(fragment) || self.know_sender(alloc, &fragment.record, most)
     }
@@ -113,6 +115,7 @@ impl Views {
     fn know_sender(&mut self, alloc: Global, record: &Record, most: usize) -> bool
         ensures left { (left : Left) → AreLeft left self.old.others self.old.apart.items → AreLeft left self.new.others self.new.apart.items }
         ensures here { result ≡ true → (station : List ℕ) → has_view station self.new.apart.items ≡ false → IsNotFrom station «record».now }
+        ensures few { vec_len self.new.apart ≤ max (vec_len self.old.apart) most }
     {
         match read_ether(record.frame.as_slice()) {
             Ok(ether) => self.take_view(alloc, ether.src, most),
@@ -124,6 +127,7 @@ impl Views {
     fn take_view(&mut self, alloc: Global, station: Mac, most: usize) -> bool
         ensures left { (left : Left) → AreLeft left self.old.others self.old.apart.items → AreLeft left self.new.others self.new.apart.items }
         ensures here { result ≡ true → (other : List ℕ) → has_view other self.new.apart.items ≡ false → bytes_eq station.0 other ≡ false }
+        ensures few { vec_len self.new.apart ≤ max (vec_len self.old.apart) most }
     {
         if has_view(&self.apart, station) {
             return true;
@@ -140,6 +144,7 @@ impl Views {
         ensures left { (left : Left) → AreLeft left self.old.others self.old.apart.items → has_view station.0 self.old.apart.items ≡ false
             → AreLeft left self.new.others self.new.apart.items }
         ensures here { result ≡ true → (other : List ℕ) → has_view other self.new.apart.items ≡ false → bytes_eq station.0 other ≡ false }
+        ensures few { vec_len self.new.apart ≤ max (vec_len self.old.apart) most }
     {
         if self.apart.len() >= most {
             return false;
@@ -153,15 +158,19 @@ impl Views {
 
     /// Takes the views from stations to which the same is left as to the others, and answers whether one is spare then.
     pub fn release(&mut self) -> bool
-        ensures { (left : Left) → AreLeft left self.old.others self.old.apart.items → AreLeft left self.new.others self.new.apart.items }
+        ensures freed { All (IsFreed self.new.others) self.new.apart.items }
+        ensures spare { result ≡ list_any is_spare self.new.apart.items }
+        ensures left { (left : Left) → AreLeft left self.old.others self.old.apart.items → AreLeft left self.new.others self.new.apart.items }
     {
         release_each(&mut self.apart, &self.others);
-        find_spare(&self.apart).is_some()
+        self.apart.iter().any(|view| view.station.is_none())
     }
 
     /// Gives back the memory of a spare view, where there are more than this many.
     pub fn shrink(&mut self, most: usize)
-        ensures { (left : Left) → AreLeft left self.old.others self.old.apart.items → AreLeft left self.new.others self.new.apart.items }
+        ensures few { vec_len self.new.apart ≤ vec_len self.old.apart }
+        ensures fewer { most < vec_len self.old.apart → list_any is_spare self.old.apart.items ≡ true → vec_len self.new.apart + 1 ≡ vec_len self.old.apart }
+        ensures left { (left : Left) → AreLeft left self.old.others self.old.apart.items → AreLeft left self.new.others self.new.apart.items }
     {
         if self.apart.len() <= most {
             return;
@@ -184,8 +193,10 @@ impl Views {
 }
 
 /// How many stations' pools may be kept apart, while so many octets wait.
-pub fn most_views(octets: usize) -> usize {
-    VIEWS.saturating_add(octets / VIEW_OCTETS)
+pub fn most_views(octets: usize) -> usize
+    ensures { result ≡ most_views octets }
+{
+    VIEWS + octets / VIEW_OCTETS
 }
 
 /// Whether one of the views is the station's.
@@ -204,7 +215,7 @@ fn find_view(views: &[View], station: Mac) -> Option<usize>
 
 /// Where a view is that is no station's.
 fn find_spare(views: &[View]) -> Option<usize>
-    ensures { result ≡ position (λ (v : View). is_none v.station) views.now }
+    ensures { result ≡ position is_spare views.now }
 {
     views.iter().position(|view| view.station.is_none())
 }
@@ -231,7 +242,8 @@ fn tick_each(views: &mut Vec<View>, now: Tick)
 
 /// Takes the views whose pools are those of the others from their stations.
 fn release_each(views: &mut Vec<View>, others: &Reasm)
-    ensures { (left : Left) → AreLeft left others.now views.old.items → AreLeft left others.now views.new.items }
+    ensures freed { All (IsFreed others.now) views.new.items }
+    ensures left { (left : Left) → AreLeft left others.now views.old.items → AreLeft left others.now views.new.items }
 {
     for place in 0..views.len() {
         if views[place].pools.is_same(others) {

@@ -1,9 +1,10 @@
 -- What is left stays where a view is freed whose pools are those of the others.
-use Rattle.std.proofs.Common.{◌<◌, ◌∙◌, Vec, Global, length, vec_len, refl, sym, ap, subst, arith}
-use Rattle.std.proofs.lemmas.List.{get_or_default}
+use Rattle.std.proofs.Common.{◌+◌, ◌<◌, ◌∙◌, All, Vec, Global, take, length, vec_len, refl, sym, ap, subst, arith}
+use Rattle.std.proofs.lemmas.List.{get_or_default, take_all}
+use Rattle.std.proofs.lemmas.Bool.{false≢true}
 use Rattle.tap_core.specs.declared.views.View.{View}
-use Rattle.tap_core.specs.Early.{AreLeft}
-use Rattle.tap_core.proofs.Apart.{view-freed}
+use Rattle.tap_core.specs.Early.{AreLeft, IsFreed}
+use Rattle.tap_core.proofs.Apart.{freed-more, freed-set, view-freed}
 use Rattle.tap_core.proofs.views.release_each.Goals.{then-is_same, else-is_same}
 use Rattle.tap_core.proofs.views.release_each.Goals as goal
 
@@ -24,9 +25,19 @@ loop-place-preserved c =
             λ left k. subst (AreLeft left others) (sym (ap (λ (v : Vec View Global). v.items) w.views-is))
                 (view-freed left others views i _ d within (h.0 left k) there refl here),
             ap vec_len w.views-is ∙ h.1,
+            subst (λ (v : Vec View Global). All (IsFreed others) (take (i + 1) v.items)) (sym w.views-is) (freed-set others views i _ within h.2 refl),
           )
       | else-is_same w ↦ (
         λ left k. subst (λ (v : Vec View Global). AreLeft left others v.items) (sym w.views-is) (h.0 left k),
         ap vec_len w.views-is ∙ h.1,
+        subst (λ (v : Vec View Global). All (IsFreed others) (take (i + 1) v.items)) (sym w.views-is)
+            (freed-more others views i d within h.2
+            (λ same. absurd (false≢true (sym w.if-is_same.false ∙ c.is_same.ensures.differs (ap (λ (v : View). v.pools) (c.index.ensures ∙ get_or_default views i d d within) ∙ same))))),
       )
     ]
+
+pub returns-clause-freed : goal.returns-clause-freed
+returns-clause-freed c =
+    let views = c.loop-place.views.items in
+    subst (All (IsFreed c.args.others.now)) (take_all c.loop-place.place views
+    (omega (arith, c.loop-place-test.false, c.len-place-end.ensures, c.loop-place.invariant.1))) c.loop-place.invariant.2

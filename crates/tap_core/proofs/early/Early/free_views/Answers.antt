@@ -15,10 +15,11 @@ returns-clause-keeps c = λ left k.
     let some : 0 < length e.waiting.kept.items = omega (arith, c.in-Some.ensures.variant.0 refl, e.waiting.kept.ok.0) in
     record {
       before = before;
-      views = c.release.ensures before (c.tick-2.ensures k.before k.views);
+      views = c.release.ensures.left before (c.tick-2.ensures k.before k.views);
       pools = λ station.
           let counts = heard_packet station in
           behind-ticked counts e.waiting c.in-Some.first.now (k.before counts) m some c.in-Some.ensures.lookup c.tick.ensures ∙ k.pools station;
       opened = λ counts. All-filter (lasts m) (OpenedBy e.latest.0) (k.before counts) (k.opened counts);
       waiting = k.waiting;
+      counted = k.counted;
     }

@@ -15,6 +15,7 @@ returns-then-not-make_room-clause-keeps c = λ left k. record {
   pools = k.pools;
   opened = k.opened;
   waiting = k.waiting;
+  counted = k.counted;
 }
 
 pub returns-clause-keeps : goal.returns-clause-keeps
@@ -27,13 +28,14 @@ returns-clause-keeps c = λ left k.
     let kept : All (CameBy e.latest.0) (f ∷ rest) = subst (All (CameBy e.latest.0)) items k.waiting in
     record {
       before = λ counts. after_waiting counts (k.before counts) f;
-      views = c.shrink.ensures (λ counts. after_waiting counts (k.before counts) f) (c.hear.ensures k.before (c.make_room.ensures.left k.before k.views));
+      views = c.shrink.ensures.left (λ counts. after_waiting counts (k.before counts) f) (c.hear.ensures.left k.before (c.make_room.ensures.left k.before k.views));
       pools = λ station.
           let counts = heard_packet station in
           ap (λ t. open_at t.0 (fold (after_waiting counts) (k.before counts) (f ∷ rest))) c.leave.ensures.passed
           ∙ ap (λ l. open_at e.waiting.passed.0 (fold (after_waiting counts) (k.before counts) l)) (sym items) ∙ k.pools station;
       opened = λ counts. kept-opened counts e.latest.0 (k.before counts) f (All-head (CameBy e.latest.0) f rest kept) (k.opened counts);
       waiting = All-tail (CameBy e.latest.0) f rest kept;
+      counted = c.leave.ensures.counted k.counted;
     }
 
 pub returns-clause-last : goal.returns-clause-last

@@ -23,6 +23,7 @@ returns-clause-keeps c = λ left k.
           opened-later e.latest.0 c.max.result (k.before counts) (omega (arith, c.max.ensures, le-max_left e.latest.0 r.tick.0)) (k.opened counts);
       waiting = subst (λ n. All (CameBy n) c.keep.new.self.kept.items) (sym c.max.ensures)
           (waiting-one e.latest.0 e.waiting.kept.items _ (record { passed = e.waiting.passed; «record» = r }) c.in_ok-keep.ensures.kept k.waiting);
+      counted = c.in_ok-keep.ensures.counted k.counted;
     }
 
 pub returns-clause-last : goal.returns-clause-last

@@ -25,6 +25,7 @@ returns-clause-keeps c = λ left k.
           ∙ sym (ap (open_at now) (sym (k.pools station)) ∙ behind-fades counts e.waiting (k.before counts) e.latest.0 now over (k.opened counts) k.waiting);
       opened = λ counts. subst (All (OpenedBy 0)) (sym (faded counts)) (All-nil (OpenedBy 0));
       waiting = subst (All (CameBy 0)) (sym c.forget.ensures.kept) (All-nil (CameBy 0));
+      counted = c.forget.ensures.counted;
     }
 
 pub returns-clause-last : goal.returns-clause-last

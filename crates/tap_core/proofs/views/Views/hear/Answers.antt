@@ -2,5 +2,5 @@
 use Rattle.tap_core.proofs.Apart.{views-hear}
 use Rattle.tap_core.proofs.views.Views.hear.Goals as goal
 
-pub returns : goal.returns
-returns c = λ left h. views-hear left _ _ _ _ c.args.fragment.now h c.requires c.hear.ensures c.hear_each.ensures
+pub returns-clause-left : goal.returns-clause-left
+returns-clause-left c = λ left h. views-hear left _ _ _ _ c.args.fragment.now h c.requires c.hear.ensures c.hear_each.ensures

@@ -18,11 +18,11 @@ use Rattle.tap_core.specs.declared.views.View.{View}
 use Rattle.tap_core.specs.Early.{after_waiting, has_view, is_view_of, packets_of, view_after, view_at, view_with, AreAlike, AreLeft, IsFreed, IsLeft, Left}
 use Rattle.tap_core.specs.Frames.{heard_packet}
 
-or-left : (x y : Bool) → (x || y) ≡ false → x ≡ false
+pub or-left : (x y : Bool) → (x || y) ≡ false → x ≡ false
 or-left true y h = h
 or-left false y h = refl
 
-or-right : (x y : Bool) → (x || y) ≡ false → y ≡ false
+pub or-right : (x y : Bool) → (x || y) ≡ false → y ≡ false
 or-right true y h = absurd (true≢false h)
 or-right false y h = h
 
@@ -31,7 +31,7 @@ or-front true true h = absurd (true≢false h)
 or-front false true h = absurd (true≢false h)
 or-front x false h = refl
 
-or-none : (x y : Bool) → x ≡ false → y ≡ false → (x || y) ≡ false
+pub or-none : (x y : Bool) → x ≡ false → y ≡ false → (x || y) ≡ false
 or-none x y h k = ap (λ b. b || y) h ∙ k
 
 -- where a written element has no such, and the one before hadn't, none has
@@ -46,7 +46,7 @@ any-set p [] i x l h = absurd (omega (arith, l))
 any-set p (y ∷ ys) zero x l h = or-left (p x) (list_any p ys) h
 any-set p (y ∷ ys) (suc i) x l h = any-set p ys i x (omega (arith, l)) (or-right (p y) (list_any p (set ys i x)) h)
 
-abbrev Change : Type 0
+abbrev pub Change : Type 0
 Change = Option Mac → List (Pool Bytes) → List (Pool Bytes)
 
 -- where what is left changes as the pools of the views do, they have what is left
@@ -58,7 +58,7 @@ each-with change left left' same (v ∷ views) h =
     (ap (change v.station) (All-head (IsLeft left) v views h) ∙ same v.station)
     (each-with change left left' same views (All-tail (IsLeft left) v views h))
 
-has-with : (change : Change) (station : List ℕ) (views : List View) → has_view station (map (view_with change) views) ≡ has_view station views
+pub has-with : (change : Change) (station : List ℕ) (views : List View) → has_view station (map (view_with change) views) ≡ has_view station views
 has-with change station [] = refl
 has-with change station (v ∷ views) = ap (λ b. is_view_of station v || b) (has-with change station views)
 
@@ -158,13 +158,13 @@ any-removed p (y ∷ ys) zero d l h k = or-none (p y) (list_any p ys) k h
 any-removed p (y ∷ ys) (suc i) d l h k =
     or-none (p y) (list_any p ys) (or-left (p y) (list_any p (remove ys i)) h) (any-removed p ys i d (omega (arith, l)) (or-right (p y) (list_any p (remove ys i)) h) k)
 
-All-removed : (P : View → Type 0) (xs : List View) (i : ℕ) → All P xs → All P (remove xs i)
+pub All-removed : (P : View → Type 0) (xs : List View) (i : ℕ) → All P xs → All P (remove xs i)
 All-removed P [] zero all = all
 All-removed P [] (suc i) all = all
 All-removed P (y ∷ ys) zero all = All-tail P y ys all
 All-removed P (y ∷ ys) (suc i) all = All-cons P y (remove ys i) (All-head P y ys all) (All-removed P ys i (All-tail P y ys all))
 
-spare-of : (station : List ℕ) (v : View) → v.station ≡ None → is_view_of station v ≡ false
+pub spare-of : (station : List ℕ) (v : View) → v.station ≡ None → is_view_of station v ≡ false
 spare-of station v e = ap (λ s. is_view_of station (record { station = s; pools = v.pools })) e
 
 -- a spare view is given back
@@ -188,7 +188,7 @@ view-taken left others views i x d m l h out spare taken pools =
       rest = λ station none. h.rest station (any-unset (is_view_of station) views i x d none (spare-of station (get_or views i d) spare));
     }
 
-of-taken : (station : List ℕ) (x : View) (m : Mac) → x.station ≡ Some m → is_view_of station x ≡ bytes_eq m.0 station
+pub of-taken : (station : List ℕ) (x : View) (m : Mac) → x.station ≡ Some m → is_view_of station x ≡ bytes_eq m.0 station
 of-taken station x m e = ap (λ s. is_view_of station (record { station = s; pools = x.pools })) e
 
 -- who then has none isn't that station

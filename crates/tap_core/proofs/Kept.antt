@@ -14,8 +14,8 @@ use Rattle.ip_core.specs.Datagrams.{after_event}
 use Rattle.ip_core.specs.Frames.{event_at, event_of, packet_in_frame}
 use Rattle.tap_core.specs.declared.fragments.Fragment.{Fragment}
 use Rattle.tap_core.specs.declared.fragments.Fragments.{Fragments}
-use Rattle.tap_core.specs.Early.{holds_fragment, after_waiting, pools_behind, CameBy, OpenedBy}
-use Rattle.tap_core.specs.Frames.{is_sent, heard_packet}
+use Rattle.tap_core.specs.Early.{after_waiting, pools_behind, CameBy, OpenedBy}
+use Rattle.tap_core.specs.Frames.{is_sent, heard_packet, holds_fragment}
 
 and-right : (x y : Bool) → (y ≡ true → x ≡ true) → y ≡ (x && y)
 and-right true y h = refl

@@ -6,7 +6,9 @@ pub mod Honest
 pub mod Kept
 pub mod OneEnd
 pub mod OneThing
+pub mod Passing
 pub mod Records
+pub mod Senders
 pub mod Splits
 pub mod Steps
 pub mod Streams

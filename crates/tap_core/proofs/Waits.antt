@@ -1,21 +1,22 @@
 -- What holds of the pools that are left, and of the fragments that wait.
-use Rattle.std.proofs.Common.{◌≡◌, ℕ, ◌<◌, ◌≤◌, max, Bool, true, false, List, [], ◌∷◌, ◌++◌, map, fold, get_or, length, drop, All, Option, refl, sym, ap, subst, ◌∙◌, arith, if◌then◌else◌}
+use Rattle.std.proofs.Common.{◌≡◌, ℕ, ◌-◌, ◌<◌, ◌≤◌, max, true, false, List, [], ◌∷◌, ◌++◌, map, fold, get_or, length, drop, All, Option, refl, sym, ap, subst, ◌∙◌, arith}
 use Rattle.std.proofs.Math.Nat.{max-eq_left, le-max_left, le-max_right}
-use Rattle.std.proofs.lemmas.Bool.{false≢true, true≢false}
+use Rattle.std.proofs.lemmas.Bool.{lt-ltb, le-ltb}
 use Rattle.std.proofs.lemmas.List.{append-nil, append_assoc, map-append}
-use Rattle.std.proofs.lemmas.List.Elements.{All-head, All-tail, All-cons, All-append, All-nil, filter-append}
+use Rattle.std.proofs.lemmas.List.Elements.{All-head, All-tail, All-cons, All-append, All-nil}
 use Rattle.std.proofs.lemmas.List.Sums.{fold-append}
 use Rattle.efi_base.specs.declared.plain.Record.{Record}
 use Rattle.wire_ip4.specs.Packet.{Packet}
-use Rattle.ip_core.specs.Pools.{Pool, open_at}
+use Rattle.ip_core.specs.Pools.{Pool, lifetime, open_at}
 use Rattle.ip_core.specs.Bytes.{Bytes, bytes_kept}
 use Rattle.ip_core.specs.Datagrams.{after_event}
 use Rattle.ip_core.specs.Frames.{event_of}
 use Rattle.tap_core.specs.declared.early.Early.{Early}
 use Rattle.tap_core.specs.declared.fragments.Fragment.{Fragment}
 use Rattle.tap_core.specs.declared.fragments.Fragments.{Fragments}
-use Rattle.tap_core.specs.Early.{after_waiting, fragments_of, holds_fragment, latest_after, latest_at, latest_of, pools_behind, AreLast, CameBy, Keeps, Left, OpenedBy}
-use Rattle.tap_core.specs.Frames.{heard_packet}
+use Rattle.tap_core.specs.Early.{after_waiting, pools_behind, AreLast, CameBy, Keeps, Left, OpenedBy}
+use Rattle.tap_core.specs.Frames.{heard_packet, holds_fragment}
+use Rattle.tap_core.specs.Recent.{latest_of, recent_after, recent_at, recent_of}
 use Rattle.tap_core.proofs.Kept.{event-same, open-open}
 
 -- a record sees the pools that are open at its tick
@@ -79,34 +80,24 @@ behind-ticked counts f k pools m l e h =
     ∙ ap (λ ps. open_at f.passed.0 (fold (after_waiting counts) ps rest)) (kept-ticked counts k pools m h)
     ∙ ap (λ xs. open_at f.passed.0 (fold (after_waiting counts) pools xs)) (sym items)
 
--- the latest tick after one record more
-pub latest-next : (records : List Record) (r : Record) → latest_of (records ++ r ∷ []) ≡ latest_after (latest_of records) r
-latest-next records r = fold-append latest_after 0 records (r ∷ [])
+-- the recent fragments after one record more
+pub recent-next : (records : List Record) (r : Record) → recent_of (records ++ r ∷ []) ≡ recent_after (recent_of records) r
+recent-next records r = fold-append recent_after [] records (r ∷ [])
 
-pub latest-fragment : (latest : ℕ) (r : Record) → holds_fragment r.frame ≡ true → max (latest_at r.tick.0 latest) r.tick.0 ≡ latest_after latest r
-latest-fragment latest r here = rw here refl
+pub recent-fragment : (fragments : List Record) (r : Record) → holds_fragment r.frame ≡ true → recent_at r.tick.0 fragments ++ r ∷ [] ≡ recent_after fragments r
+recent-fragment fragments r here = rw here refl
 
-pub latest-other : (latest : ℕ) (r : Record) → holds_fragment r.frame ≡ false → latest_at r.tick.0 latest ≡ latest_after latest r
-latest-other latest r none = rw none refl
+pub recent-other : (fragments : List Record) (r : Record) → holds_fragment r.frame ≡ false → recent_at r.tick.0 fragments ≡ recent_after fragments r
+recent-other fragments r none = rw none refl
 
-if-here : (r : Record) (here : Bool) → here ≡ true → (if here then r ∷ [] else []) ≡ r ∷ []
-if-here r true h = refl
-if-here r false h = absurd (false≢true h)
+pub recent-lasts : (now : ℕ) (fragments : List Record) → now - latest_of fragments < lifetime → fragments ≡ recent_at now fragments
+recent-lasts now fragments h = rw (lt-ltb (now - latest_of fragments) lifetime h) refl
 
-if-none : (r : Record) (here : Bool) → here ≡ false → (if here then r ∷ [] else []) ≡ []
-if-none r true h = absurd (true≢false h)
-if-none r false h = refl
+pub recent-over : (now : ℕ) (fragments : List Record) → lifetime ≤ now - latest_of fragments → [] ≡ recent_at now fragments
+recent-over now fragments h = rw (le-ltb (now - latest_of fragments) lifetime h) refl
 
--- the fragments, with one more
-pub fragments-next : (records : List Record) (r : Record) → holds_fragment r.frame ≡ true → fragments_of records ++ r ∷ [] ≡ fragments_of (records ++ r ∷ [])
-fragments-next records r here =
-    ap (λ l. fragments_of records ++ l) (sym (if-here r (holds_fragment r.frame) here)) ∙ sym (filter-append (λ (q : Record). holds_fragment q.frame) records (r ∷ []))
-
--- and with another record
-pub fragments-same : (records : List Record) (r : Record) → holds_fragment r.frame ≡ false → fragments_of records ≡ fragments_of (records ++ r ∷ [])
-fragments-same records r none =
-    sym (append-nil (fragments_of records)) ∙ ap (λ l. fragments_of records ++ l) (sym (if-none r (holds_fragment r.frame) none))
-    ∙ sym (filter-append (λ (q : Record). holds_fragment q.frame) records (r ∷ []))
+pub latest-more : (fragments : List Record) (r : Record) → latest_of (fragments ++ r ∷ []) ≡ max (latest_of fragments) r.tick.0
+latest-more fragments r = fold-append (λ t (q : Record). max t q.tick.0) 0 fragments (r ∷ [])
 
 -- one more waits, the last
 pub last-kept : (fragments : List Record) (waiting now : List Fragment) (k : Fragment) → now ≡ waiting ++ k ∷ [] → AreLast fragments waiting

@@ -1,13 +1,13 @@
 -- What is kept of the records in front of the segment that asks for a connection, while no station is known: the pools that
 -- fragments left open to stations that sent some of them, each apart, and those that they left to all others alike.
-use Rattle.std.specs.Prelude.{◌≡◌, ◌⊎◌, ℕ, ◌-◌, ◌≤◌, ◌<◌, max, nat_lt, Bool, false, List, [], ◌++◌, filter, map, fold, All, Option, Some, None, if◌then◌else◌, ◌+◌, ◌/◌, length, is_none}
+use Rattle.std.specs.Prelude.{◌≡◌, ◌⊎◌, ⊤, ℕ, suc, ◌≤◌, max, Bool, true, false, List, [], ◌∷◌, ◌++◌, map, fold, All, Option, Some, None, ◌+◌, ◌/◌, length, is_none}
 use Rattle.std.specs.List.{list_any, sum_by}
 use Rattle.std.specs.Option.{option_map_or}
 use Rattle.std.specs.Str.{bytes_eq}
 use Rattle.efi_base.specs.declared.plain.Mac.{Mac}
 use Rattle.efi_base.specs.declared.plain.Record.{Record}
-use Rattle.wire_ip4.specs.Packet.{Packet, packet_of, is_fragment}
-use Rattle.ip_core.specs.Pools.{Pool, is_dropped, lifetime, most_pools, open_at}
+use Rattle.wire_ip4.specs.Packet.{Packet, packet_of}
+use Rattle.ip_core.specs.Pools.{Pool, is_dropped, most_pools, open_at}
 use Rattle.ip_core.specs.Bytes.{Bytes, bytes_kept}
 use Rattle.ip_core.specs.Datagrams.{after_event}
 use Rattle.ip_core.specs.Frames.{event_of, packet_in_frame}
@@ -17,11 +17,7 @@ use Rattle.tap_core.specs.declared.fragments.Fragments.{Fragments}
 use Rattle.tap_core.specs.declared.views.View.{View}
 use Rattle.tap_core.specs.Frames.{heard_packet, is_sent}
 use Rattle.tap_core.specs.Hearing.{pools_by}
-use Rattle.tap_core.specs.Shown.{last_tick}
-
--- the frame holds a fragment, whose header has a right checksum: each station may hear it that didn't send it
-abbrev pub holds_fragment : List ℕ → Bool
-holds_fragment frame = option_map_or is_fragment (packet_in_frame packet_of frame) false
+use Rattle.tap_core.specs.Recent.{AreSentBy, latest_of, recent_of, sent_one}
 
 -- the packets that a station hears, or one that sent none of the frames
 abbrev pub packets_of : Option Mac → List ℕ → Option Packet
@@ -130,36 +126,64 @@ pub record Keeps (left : Left) (e : Early) : Type 0 where
   pub waiting : All (CameBy e.latest.0) e.waiting.kept.items
   pub counted : AreCounted e.waiting
 
--- the latest tick once this one has passed: 0 where a pool that opened at it would be over
-abbrev pub latest_at : ℕ → ℕ → ℕ
-latest_at now latest = if nat_lt (now - latest) lifetime then latest else 0
-
--- the latest tick after a record
-abbrev pub latest_after : ℕ → Record → ℕ
-latest_after latest r = let passed = latest_at r.tick.0 latest in if holds_fragment r.frame then max passed r.tick.0 else passed
-
--- the greatest tick of a fragment since a record came 30,000 ticks or more behind the greatest until then, when no pool is open; 0
--- where none came since
-abbrev pub latest_of : List Record → ℕ
-latest_of records = fold latest_after 0 records
-
--- none waits, or a pool that opened at the latest tick wouldn't be over at this one
-abbrev pub AreRecent : ℕ → Early → Type 0
-AreRecent now e = (e.waiting.kept.items ≡ []) ⊎ (now - e.latest.0 < lifetime)
-
--- the records that hold fragments
-abbrev pub fragments_of : List Record → List Record
-fragments_of records = filter (λ r. holds_fragment r.frame) records
-
 -- fragments that wait are the last of these, in order
 pub record AreLast (fragments : List Record) (waiting : List Fragment) : Type 0 where
   pub front : List Record
   pub parts : fragments ≡ front ++ map (λ k. k.record) waiting
 
--- Whoever is the station, what is kept leaves the pools that the records leave. No record waits but the last fragments, and none of
--- them where a pool that opened at the latest tick would be over at the last record's.
+-- it is no station's, or none of the views is of the same
+abbrev pub IsAlone : List View → Option Mac → Type 0
+IsAlone views None = ⊤
+IsAlone views (Some m) = has_view m.0 views ≡ false
+
+-- no two of the views are of one station
+abbrev pub AreApart : List View → Type 0
+AreApart [] = ⊤
+AreApart (v ∷ views) = IsAlone views v.station × AreApart views
+
+-- it is no station's, or one's that sent one of the records
+abbrev pub IsSender : List Record → Option Mac → Type 0
+IsSender records None = ⊤
+IsSender records (Some m) = sent_one records m.0 ≡ true
+
+-- no two of the views are of one station, and each is of one that sent some of the records, or spare
+pub record AreSenders (records : List Record) (views : List View) : Type 0 where
+  pub apart : AreApart views
+  pub sent : All (λ v. IsSender records v.station) views
+
+-- Fragments that wait are the last of these, in order, the latest tick is the greatest of theirs, and the stations that have a view sent
+-- some of them.
+pub record ComesFrom (fragments : List Record) (e : Early) : Type 0 where
+  pub last : AreLast fragments e.waiting.kept.items
+  pub latest : e.latest.0 ≡ latest_of fragments
+  pub senders : AreSenders fragments e.views.apart.items
+
+-- the sender of a record has no view, none is spare, and there are this many
+pub record IsRefused (most : ℕ) (r : Record) (views : List View) : Type 0 where
+  pub many : most ≤ length views
+  pub none_spare : list_any is_spare views ≡ false
+  pub sender : List ℕ
+  pub sent : is_sent sender r.frame ≡ true
+  pub unknown : has_view sender views ≡ false
+
+-- the sender of the first that waits has no view, and there are as many as may be while so many octets wait
+pub record IsFull (e : Early) : Type 0 where
+  pub first : Fragment
+  pub rest : List Fragment
+  pub waiting : e.waiting.kept.items ≡ first ∷ rest
+  pub refused : IsRefused (most_views e.waiting.octets) first.record e.views.apart.items
+
+-- none waits, or no more can be heard
+abbrev pub IsSettled : Early → Type 0
+IsSettled e = (e.waiting.kept.items ≡ []) ⊎ IsFull e
+
+-- none waits, or the fragments came from 17 stations, and from one more for each 262,144 octets that wait
+abbrev pub AreNeeded : List Record → Fragments → Type 0
+AreNeeded fragments w = (w.kept.items ≡ []) ⊎ AreSentBy (suc (most_views w.octets)) fragments
+
+-- Whoever is the station, what is kept leaves the pools that the records leave. No record is kept but the last fragments that are
+-- recent, and none of them where those came from 16 stations or fewer; for each station more at most 262,144 octets of them are.
 pub record KeepsFragments (records : List Record) (e : Early) : Type 0 where
   pub keeps : Keeps (left_by records) e
-  pub last : AreLast (fragments_of records) e.waiting.kept.items
-  pub latest : e.latest.0 ≡ latest_of records
-  pub recent : AreRecent (last_tick records) e
+  pub comes : ComesFrom (recent_of records) e
+  pub needed : AreNeeded (recent_of records) e.waiting

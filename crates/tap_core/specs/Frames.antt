@@ -3,7 +3,7 @@ use Rattle.std.specs.Prelude.{ℕ, Bool, false, List, Option, None, if◌then◌
 use Rattle.std.specs.Option.{option_map_or}
 use Rattle.std.specs.Str.{bytes_eq}
 use Rattle.wire_link.specs.Ether.{frame_of}
-use Rattle.wire_ip4.specs.Packet.{Packet, packet_of, unverified_packet_of}
+use Rattle.wire_ip4.specs.Packet.{Packet, packet_of, unverified_packet_of, is_fragment}
 use Rattle.ip_core.specs.Frames.{packet_in_frame}
 
 -- the packet of a frame, whoever sent it. Its sender's network card fills the header's checksum in, so that isn't looked at.
@@ -17,3 +17,7 @@ is_sent station frame = option_map_or (λ f. bytes_eq f.src station) (frame_of f
 -- the packet of a frame that the station heard, with a right checksum of its header: what it sent itself isn't heard
 unfoldable pub heard_packet : List ℕ → List ℕ → Option Packet
 heard_packet station frame = if is_sent station frame then None else packet_in_frame packet_of frame
+
+-- the frame holds a fragment, whose header has a right checksum: each station may hear it that didn't send it
+abbrev pub holds_fragment : List ℕ → Bool
+holds_fragment frame = option_map_or is_fragment (packet_in_frame packet_of frame) false

@@ -9,6 +9,7 @@ pub mod Heard
 pub mod Hearing
 pub mod Openings
 pub mod Peers
+pub mod Recent
 pub mod Seen
 pub mod Segments
 pub mod Shown

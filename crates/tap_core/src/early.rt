@@ -1,15 +1,16 @@
 //! What is kept of the records in front of the segment that asks for a connection. Which station hears their fragments shows
 //! only with that segment, so the pools are kept that they left open to their senders, and to all others. Where that is too
 //! many a fragment waits, and all behind it. How pools are kept apart isn't here.
-ghost use Rattle.std.specs.Prelude.{◌≡◌, ◌<◌, ◌∷◌, ◌++◌, [], true, false, max, List, ℕ, IfOk, OnOk, ◌≤◌, vec_len};
+ghost use Rattle.std.specs.Prelude.{◌≡◌, ◌<◌, ◌∷◌, ◌++◌, [], true, false, max, List, ℕ, IfOk, OnOk, ◌≤◌, ◌+◌, vec_len};
 ghost use Rattle.std.specs.VecDeque.{deque_len};
 ghost use Rattle.efi_base.specs.declared.plain.Record.{Record};
 ghost use Rattle.ip_core.specs.Bytes.{bytes_kept};
 ghost use Rattle.ip_core.specs.Datagrams.{after_event};
 ghost use Rattle.ip_core.specs.Frames.{event_of};
 ghost use Rattle.ip_core.specs.Pools.{open_at};
-ghost use Rattle.tap_core.specs.Early.{AreLast, AreRecent, Keeps, KeepsFragments, Left, holds_fragment, latest_at, left_by, most_views};
+ghost use Rattle.tap_core.specs.Early.{AreNeeded, ComesFrom, IsSettled, Keeps, KeepsFragments, Left, left_by, most_views};
 ghost use Rattle.tap_core.specs.Frames.{heard_packet};
+ghost use Rattle.tap_core.specs.Recent.{recent_at};
 
 use crate::fragments::Fragments;
 use crate::packets::holds_fragment;
@@ -51,7 +52,7 @@ impl Early {
         self.pass(record.tick);
         if holds_fragment(record.frame.as_slice()) {
             self.keep(record)?;
-            self.settle(alloc);
+            self.settle(alloc)?;
         }
         Ok(())
     }
@@ -69,9 +70,9 @@ impl Early {
     /// A tick passes. Where each pool is over that a fragment can have opened, none waits any longer, and no station needs a view.
     fn pass(&mut self, now: Tick)
         ensures keeps { (left : Left) → Keeps left self.old → Keeps (λ counts. open_at now.0 (left counts)) self.new }
-        ensures last { (fragments : List Record) → AreLast fragments self.old.waiting.kept.items → AreLast fragments self.new.waiting.kept.items }
-        ensures latest { self.new.latest.0 ≡ latest_at now.0 self.old.latest.0 }
-        ensures recent { AreRecent now.0 self.new }
+        ensures comes { (fragments : List Record) → ComesFrom fragments self.old → ComesFrom (recent_at now.0 fragments) self.new }
+        ensures needed { (fragments : List Record) → ComesFrom fragments self.old → AreNeeded fragments self.old.waiting
+            → AreNeeded (recent_at now.0 fragments) self.new.waiting }
     {
         if now.0.saturating_sub(self.latest.0) < LIFETIME {
             self.waiting.pass(now);
@@ -86,9 +87,7 @@ impl Early {
     fn keep(&mut self, record: Record) -> Result<(), NoMemory>
         ensures keeps { (left : Left) → Keeps left self.old
             → OnOk result (Keeps (λ counts. after_event bytes_kept (left counts) (event_of counts «record»)) self.new) }
-        ensures last { (fragments : List Record) → AreLast fragments self.old.waiting.kept.items
-            → OnOk result (AreLast (fragments ++ «record» ∷ []) self.new.waiting.kept.items) }
-        ensures latest { OnOk result (self.new.latest.0 ≡ max self.old.latest.0 «record».tick.0) }
+        ensures comes { (fragments : List Record) → ComesFrom fragments self.old → OnOk result (ComesFrom (fragments ++ «record» ∷ []) self.new) }
     {
         let tick = record.tick;
         let waited = self.waiting.octets();
@@ -100,44 +99,57 @@ impl Early {
     }
 
     /// Hears those that wait, the first one first, as far as all can be told apart to which they leave different pools.
-    fn settle(&mut self, alloc: Global)
-        ensures keeps { (left : Left) → Keeps left self.old → Keeps left self.new }
-        ensures last { (fragments : List Record) → AreLast fragments self.old.waiting.kept.items → AreLast fragments self.new.waiting.kept.items }
-        ensures latest { self.new.latest ≡ self.old.latest }
+    fn settle(&mut self, alloc: Global) -> Result<(), NoMemory>
+        ensures keeps { (left : Left) → Keeps left self.old → OnOk result (Keeps left self.new) }
+        ensures comes { (fragments : List Record) → ComesFrom fragments self.old → OnOk result (ComesFrom fragments self.new) }
+        ensures settled { OnOk result (IsSettled self.new) }
     {
-        while self.hear_next(alloc) || self.free_views() {}
+        while self.go_on(alloc)? {}
+        Ok(())
+    }
+
+    /// Hears the first that waits, or else takes views from stations that need none. Answers false where no more can be heard.
+    fn go_on(&mut self, alloc: Global) -> Result<bool, NoMemory>
+        ensures keeps { (left : Left) → Keeps left self.old → OnOk result (Keeps left self.new) }
+        ensures comes { (fragments : List Record) → ComesFrom fragments self.old → OnOk result (ComesFrom fragments self.new) }
+        ensures fewer { IfOk result (λ more. more ≡ true
+            → deque_len self.new.waiting.kept + self.new.budget < deque_len self.old.waiting.kept + self.old.budget) }
+        ensures settled { IfOk result (λ more. more ≡ false → IsSettled self.new) }
+    {
+        Ok(self.hear_next(alloc)? || self.free_views())
     }
 
     /// Hears the first that waits, where all can be told apart to which it leaves different pools, and answers whether it was heard.
-    fn hear_next(&mut self, alloc: Global) -> bool
-        ensures keeps { (left : Left) → Keeps left self.old → Keeps left self.new }
-        ensures last { (fragments : List Record) → AreLast fragments self.old.waiting.kept.items → AreLast fragments self.new.waiting.kept.items }
-        ensures latest { self.new.latest ≡ self.old.latest }
-        ensures budget { self.new.budget ≡ self.old.budget }
-        ensures few { vec_len self.new.views.apart ≤ max (vec_len self.old.views.apart) (most_views self.old.waiting.octets) }
-        ensures fewer { result ≡ true → deque_len self.new.waiting.kept < deque_len self.old.waiting.kept }
-        ensures same { result ≡ false → deque_len self.new.waiting.kept ≡ deque_len self.old.waiting.kept }
+    fn hear_next(&mut self, alloc: Global) -> Result<bool, NoMemory>
+        ensures keeps { (left : Left) → Keeps left self.old → OnOk result (Keeps left self.new) }
+        ensures comes { (fragments : List Record) → ComesFrom fragments self.old → OnOk result (ComesFrom fragments self.new) }
+        ensures budget { OnOk result (self.new.budget ≡ self.old.budget) }
+        ensures few { OnOk result (vec_len self.new.views.apart ≤ max (vec_len self.old.views.apart) (most_views self.old.waiting.octets)) }
+        ensures fewer { IfOk result (λ heard. heard ≡ true → deque_len self.new.waiting.kept < deque_len self.old.waiting.kept) }
+        ensures same { IfOk result (λ heard. heard ≡ false → deque_len self.new.waiting.kept ≡ deque_len self.old.waiting.kept) }
+        ensures settled { IfOk result (λ heard. heard ≡ false → IsSettled self.new) }
     {
         let most = most_views(self.waiting.octets());
         let Some(fragment) = self.waiting.kept.front() else {
-            return false;
+            return Ok(false);
         };
-        if !self.views.make_room(alloc, fragment, most) {
-            return false;
+        if !self.views.make_room(alloc, fragment, most)? {
+            return Ok(false);
         }
         self.views.hear(fragment);
         self.waiting.leave();
         self.views.shrink(most);
-        true
+        Ok(true)
     }
 
     /// Takes views from stations to which the same is left as to the others at the tick of the first fragment that waits.
     /// Answers whether a view is spare then; false where the budget doesn't pay for it.
     fn free_views(&mut self) -> bool
         ensures keeps { (left : Left) → Keeps left self.old → Keeps left self.new }
-        ensures latest { self.new.latest ≡ self.old.latest }
+        ensures comes { (fragments : List Record) → ComesFrom fragments self.old → ComesFrom fragments self.new }
         ensures waiting { self.new.waiting ≡ self.old.waiting }
         ensures cheaper { result ≡ true → self.new.budget < self.old.budget }
+        ensures settled { IsSettled self.old → result ≡ false → IsSettled self.new }
     {
         let Some(first) = self.waiting.kept.front() else {
             return false;

@@ -3,8 +3,8 @@ ghost use Rattle.std.specs.Prelude.{◌≡◌, option_map};
 ghost use Rattle.wire_ip4.specs.Packet.{packet_of, unverified_packet_of};
 ghost use Rattle.wire_ip4.specs.Seen.{packet_seen};
 ghost use Rattle.ip_core.specs.Frames.{packet_in_frame};
-ghost use Rattle.tap_core.specs.Early.{holds_fragment, packets_of};
-ghost use Rattle.tap_core.specs.Frames.{any_packet, heard_packet, is_sent};
+ghost use Rattle.tap_core.specs.Early.{packets_of};
+ghost use Rattle.tap_core.specs.Frames.{any_packet, heard_packet, holds_fragment, is_sent};
 
 use efi_base::Mac;
 use wire_ip4::{Ip, read_ip, read_ip_unverified};

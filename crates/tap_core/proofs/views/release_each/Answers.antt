@@ -1,10 +1,11 @@
 -- What is left stays where a view is freed whose pools are those of the others.
-use Rattle.std.proofs.Common.{◌+◌, ◌<◌, ◌∙◌, All, Vec, Global, take, length, vec_len, refl, sym, ap, subst, arith}
+use Rattle.std.proofs.Common.{◌+◌, ◌<◌, ◌∙◌, None, All, Vec, Global, take, length, vec_len, refl, sym, ap, subst, arith}
 use Rattle.std.proofs.lemmas.List.{get_or_default, take_all}
 use Rattle.std.proofs.lemmas.Bool.{false≢true}
 use Rattle.tap_core.specs.declared.views.View.{View}
-use Rattle.tap_core.specs.Early.{AreLeft, IsFreed}
+use Rattle.tap_core.specs.Early.{has_view, is_view_of, AreLeft, AreSenders, IsFreed}
 use Rattle.tap_core.proofs.Apart.{freed-more, freed-set, view-freed}
+use Rattle.tap_core.proofs.Senders.{any-set-none, senders-freed}
 use Rattle.tap_core.proofs.views.release_each.Goals.{then-is_same, else-is_same}
 use Rattle.tap_core.proofs.views.release_each.Goals as goal
 
@@ -26,6 +27,9 @@ loop-place-preserved c =
                 (view-freed left others views i _ d within (h.0 left k) there refl here),
             ap vec_len w.views-is ∙ h.1,
             subst (λ (v : Vec View Global). All (IsFreed others) (take (i + 1) v.items)) (sym w.views-is) (freed-set others views i _ within h.2 refl),
+            λ station out. ap (λ (v : Vec View Global). has_view station v.items) w.views-is
+                ∙ any-set-none (is_view_of station) views i (record { station = None; pools = x.pools }) (h.3 station out) refl,
+            λ fragments s. subst (λ (v : Vec View Global). AreSenders fragments v.items) (sym w.views-is) (senders-freed fragments views i _ refl (h.4 fragments s)),
           )
       | else-is_same w ↦ (
         λ left k. subst (λ (v : Vec View Global). AreLeft left others v.items) (sym w.views-is) (h.0 left k),
@@ -33,6 +37,8 @@ loop-place-preserved c =
         subst (λ (v : Vec View Global). All (IsFreed others) (take (i + 1) v.items)) (sym w.views-is)
             (freed-more others views i d within h.2
             (λ same. absurd (false≢true (sym w.if-is_same.false ∙ c.is_same.ensures.differs (ap (λ (v : View). v.pools) (c.index.ensures ∙ get_or_default views i d d within) ∙ same))))),
+        λ station out. ap (λ (v : Vec View Global). has_view station v.items) w.views-is ∙ h.3 station out,
+        λ fragments s. subst (λ (v : Vec View Global). AreSenders fragments v.items) (sym w.views-is) (h.4 fragments s),
       )
     ]
 

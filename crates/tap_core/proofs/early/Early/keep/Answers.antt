@@ -1,12 +1,13 @@
 -- One fragment more waits.
-use Rattle.std.proofs.Common.{◌∙◌, All, sym, ap, subst, arith}
+use Rattle.std.proofs.Common.{◌∙◌, max, All, sym, ap, subst, arith}
 use Rattle.std.proofs.Math.Nat.{le-max_left}
 use Rattle.ip_core.specs.Bytes.{bytes_kept}
 use Rattle.ip_core.specs.Datagrams.{after_event}
 use Rattle.ip_core.specs.Frames.{event_of}
 use Rattle.tap_core.specs.Early.{CameBy}
 use Rattle.tap_core.specs.Frames.{heard_packet}
-use Rattle.tap_core.proofs.Waits.{waiting-one, last-kept, opened-later}
+use Rattle.tap_core.proofs.Waits.{waiting-one, last-kept, latest-more, opened-later}
+use Rattle.tap_core.proofs.Senders.{senders-more}
 use Rattle.tap_core.proofs.early.Early.keep.Goals as goal
 
 pub returns-clause-keeps : goal.returns-clause-keeps
@@ -26,7 +27,12 @@ returns-clause-keeps c = λ left k.
       counted = c.in_ok-keep.ensures.counted k.counted;
     }
 
-pub returns-clause-last : goal.returns-clause-last
-returns-clause-last c = λ fragments l.
+pub returns-clause-comes : goal.returns-clause-comes
+returns-clause-comes c = λ fragments h.
     let e = c.args.self.now in
-    last-kept fragments e.waiting.kept.items _ (record { passed = e.waiting.passed; «record» = c.args.«record» }) c.in_ok-keep.ensures.kept l
+    let r = c.args.«record» in
+    record {
+      last = last-kept fragments e.waiting.kept.items _ (record { passed = e.waiting.passed; «record» = r }) c.in_ok-keep.ensures.kept h.last;
+      latest = c.max.ensures ∙ ap (λ t. max t r.tick.0) h.latest ∙ sym (latest-more fragments r);
+      senders = senders-more fragments r e.views.apart.items h.senders;
+    }

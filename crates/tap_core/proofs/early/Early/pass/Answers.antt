@@ -1,12 +1,13 @@
 -- Where the time of each pool is over, none is open.
-use Rattle.std.proofs.Common.{◌≡◌, ◌≤◌, ◌-◌, ◌∙◌, ℕ, List, [], fold, All, Option, sym, ap, subst, arith}
+use Rattle.std.proofs.Common.{inl, ◌≡◌, ◌<◌, ◌≤◌, ◌-◌, ◌∙◌, ℕ, List, [], fold, All, Option, refl, sym, ap, subst, arith}
 use Rattle.ip_core.specs.Pools.{lifetime, open_at}
 use Rattle.wire_ip4.specs.Packet.{Packet}
 use Rattle.tap_core.specs.Early.{after_waiting, CameBy, OpenedBy}
 use Rattle.tap_core.specs.Frames.{heard_packet}
+use Rattle.tap_core.specs.Recent.{latest_of}
 use Rattle.std.proofs.lemmas.List.Elements.{All-nil}
 use Rattle.tap_core.proofs.Kept.{behind-fades, fades}
-use Rattle.tap_core.proofs.Waits.{last-none}
+use Rattle.tap_core.proofs.Passing.{comes-lasts, comes-over, needed-lasts}
 use Rattle.tap_core.proofs.early.Early.pass.Goals as goal
 
 pub returns-clause-keeps : goal.returns-clause-keeps
@@ -17,7 +18,7 @@ returns-clause-keeps c = λ left k.
     let faded : (counts : List ℕ → Option Packet) → open_at now (k.before counts) ≡ [] = λ counts. fades e.latest.0 now (k.before counts) over (k.opened counts) in
     record {
       before = λ counts. open_at now (k.before counts);
-      views = c.close.ensures k.before k.views faded;
+      views = c.close.ensures.left k.before k.views faded;
       pools = λ station.
           let counts = heard_packet station in
           ap (λ l. open_at c.forget.new.self.passed.0 (fold (after_waiting counts) (open_at now (k.before counts)) l)) c.forget.ensures.kept
@@ -28,5 +29,20 @@ returns-clause-keeps c = λ left k.
       counted = c.forget.ensures.counted;
     }
 
-pub returns-clause-last : goal.returns-clause-last
-returns-clause-last c = λ fragments l. last-none fragments _ c.forget.ensures.kept
+pub returns-then-saturating_sub-lt-LIFETIME-clause-comes : goal.returns-then-saturating_sub-lt-LIFETIME-clause-comes
+returns-then-saturating_sub-lt-LIFETIME-clause-comes c = λ fragments h.
+    let lasts : c.args.now.0 - latest_of fragments < lifetime = omega (arith, c.if-saturating_sub-lt-LIFETIME.true, c.saturating_sub.ensures, h.latest) in
+    comes-lasts c.args.now.0 fragments c.args.self.now _ lasts c.pass.ensures.kept refl refl h
+
+pub returns-then-saturating_sub-lt-LIFETIME-clause-needed : goal.returns-then-saturating_sub-lt-LIFETIME-clause-needed
+returns-then-saturating_sub-lt-LIFETIME-clause-needed c = λ fragments h needed.
+    let lasts : c.args.now.0 - latest_of fragments < lifetime = omega (arith, c.if-saturating_sub-lt-LIFETIME.true, c.saturating_sub.ensures, h.latest) in
+    needed-lasts c.args.now.0 fragments c.args.self.now.waiting c.pass.new.self lasts c.pass.ensures.kept c.pass.ensures.octets needed
+
+pub returns-clause-comes : goal.returns-clause-comes
+returns-clause-comes c = λ fragments h.
+    let over : lifetime ≤ c.args.now.0 - latest_of fragments = omega (arith, c.if-saturating_sub-lt-LIFETIME.false, c.saturating_sub.ensures, h.latest) in
+    comes-over c.args.now.0 fragments _ over c.forget.ensures.kept refl c.close.ensures.none
+
+pub returns-clause-needed : goal.returns-clause-needed
+returns-clause-needed c = λ fragments h needed. inl c.forget.ensures.kept

@@ -2,5 +2,5 @@
 use Rattle.tap_core.proofs.Apart.{views-tick}
 use Rattle.tap_core.proofs.views.Views.tick.Goals as goal
 
-pub returns : goal.returns
-returns c = λ left h. views-tick left _ _ _ _ c.args.now.0 h c.tick.ensures c.tick_each.ensures
+pub returns-clause-left : goal.returns-clause-left
+returns-clause-left c = λ left h. views-tick left _ _ _ _ c.args.now.0 h c.tick.ensures c.tick_each.ensures

@@ -49,21 +49,12 @@ run-ends room ring words bits place count from run set same ends h =
     ∙ ap (λ n. is_kept bits (n % room)) e
     ∙ ends (omega arith)
 
--- kept octets stand within the window, and within a ring that is long enough for what is kept
+-- kept octets stand within the window
 pub kept-within : (room : ℕ) (ring words : List ℕ) (place count from end : ℕ) → from < end
     → ((i : ℕ) → from ≤ i → i < end → is_some (get_or (slots room ring words place count) i None) ≡ true) → end ≤ count
 kept-within room ring words place count from end h kept =
     let last : end - 1 < count = some-within room ring words place count (end - 1) (kept (end - 1) (omega arith) (omega arith)) in
     omega arith
-
-pub kept-used : (room : ℕ) (ring words : List ℕ) (place count len from end i : ℕ) → from < end
-    → ((j : ℕ) → from ≤ j → j < end → is_some (get_or (slots room ring words place count) j None) ≡ true)
-    → ((j : ℕ) → j < count → is_kept words ((place + j) % room) ≡ true → (place + j) % room < len)
-    → i < end - from → (place + from + i) % room < len
-kept-used room ring words place count len from end i h kept used k =
-    let e : place + from + i ≡ place + (from + i) = omega arith in
-    let within : from + i < count = omega (arith, kept-within room ring words place count from end h kept) in
-    rw e (used (from + i) within (sym (slots-some room ring words place count (from + i) within) ∙ kept (from + i) (omega arith) (omega arith)))
 
 pub kept-octet : (room : ℕ) (ring words : List ℕ) (place count from end i byte : ℕ) → from < end
     → ((j : ℕ) → from ≤ j → j < end → is_some (get_or (slots room ring words place count) j None) ≡ true)

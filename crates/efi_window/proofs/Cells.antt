@@ -1,5 +1,5 @@
 -- The slots of a ring from a place on: how many, what stands in each, and what puts, takes and walks make of them.
-use Rattle.std.proofs.Common.{inl, inr, ◌∙◌, ◌≡◌, ◌⊎◌, ℕ, zero, suc, ◌+◌, ◌-◌, ◌%◌, ◌<◌, ◌≤◌, ◌==◌, Bool, true, false, List, [], ◌∷◌, ◌++◌, length, get_or, take, drop, max, min, Option, Some, None, is_none, refl, ap, sym, arith}
+use Rattle.std.proofs.Common.{inl, inr, ◌∙◌, ◌≡◌, ◌⊎◌, ℕ, zero, suc, ◌+◌, ◌-◌, ◌%◌, ◌<◌, ◌≤◌, ◌==◌, Bool, true, false, List, [], ◌∷◌, ◌++◌, length, get_or, take, drop, max, Option, Some, None, is_none, refl, ap, sym, arith}
 use Rattle.std.specs.List.{list_all}
 use Rattle.std.proofs.Math.Nat.{add-mod_right}
 use Rattle.std.proofs.lemmas.Bool.{cases_lt, cases_Bool}
@@ -9,7 +9,7 @@ use Rattle.std.proofs.lemmas.Bool.Decides.{nat_tests}
 use Rattle.std.proofs.lemmas.Nat.{mod_below}
 use Rattle.efi_window.specs.Places.{front, put}
 use Rattle.efi_window.specs.Kept.{is_kept, slot, slots, IsPlaced}
-use Rattle.efi_window.proofs.Rounds.{all-round, within-reach}
+use Rattle.efi_window.proofs.Rounds.{all-round}
 
 -- ---- slots
 
@@ -196,34 +196,14 @@ module _ (taken first room : ℕ) (bytes ring words now new : List ℕ) (order :
       → max span (first - taken + length bytes) ≤ i → i < room → is_kept new ((taken + i) % room) ≡ false
   free-put span i free h k = put-others i k (inr (omega arith)) ∙ free i (omega arith) k
 
-  -- each byte that is kept now stands within a ring that is long enough for what was kept and what was put
-  pub used-put : (span old len i : ℕ) → old ≤ len → min (first % room + length bytes) room ≤ len
-      → ((j : ℕ) → j < span → is_kept words ((taken + j) % room) ≡ true → (taken + j) % room < old)
-      → ((j : ℕ) → span ≤ j → j < room → is_kept words ((taken + j) % room) ≡ false)
-      → i < room → is_kept new ((taken + i) % room) ≡ true → (taken + i) % room < len
-  used-put span old len i longer enough used free h kept = elim (cases_lt i (first - taken)) [
-    | inl l ↦ before (inl l)
-    | inr l ↦ elim (cases_lt i (first - taken + length bytes)) [
-      | inl m ↦ rw (past-first taken first room i order l) (within-reach first room (length bytes) len (i - (first - taken)) (omega arith) (omega arith) enough)
-      | inr m ↦ before (inr m)
-    ]
-  ]
-    where
-      before : (i < first - taken) ⊎ (first - taken + length bytes ≤ i) → (taken + i) % room < len
-      before k =
-          let was = sym (put-others i h k) ∙ kept in
-          elim (cases_lt i span) [
-            | inl l ↦ omega (arith, used i l was)
-            | inr l ↦ absurd (cc (free i l h))
-          ]
-
--- a ring that is longer, with the same bytes
-pub slots-longer : (room : ℕ) (ring longer words : List ℕ) (place count : ℕ) → ((i : ℕ) → get_or longer i 0 ≡ get_or ring i 0)
-    → slots room longer words place count ≡ slots room ring words place count
-slots-longer room ring longer words place zero e = refl
-slots-longer room ring longer words place (suc count) e =
-    let head = ap (slot (is_kept words (place % room))) (e (place % room)) in
-    rw head (ap (λ l. slot (is_kept words (place % room)) (get_or ring (place % room) 0) ∷ l) (slots-longer room ring longer words (suc place) count e))
+-- a ring and bits that are longer, with the same bytes and the same places
+pub slots-longer : (room : ℕ) (ring longer words more : List ℕ) (place count : ℕ) → ((i : ℕ) → get_or longer i 0 ≡ get_or ring i 0)
+    → ((i : ℕ) → is_kept more i ≡ is_kept words i) → slots room longer more place count ≡ slots room ring words place count
+slots-longer room ring longer words more place zero e f = refl
+slots-longer room ring longer words more place (suc count) e f =
+    let bit = ap (λ b. slot b (get_or longer (place % room) 0)) (f (place % room)) in
+    let head = bit ∙ ap (slot (is_kept words (place % room))) (e (place % room)) in
+    rw head (ap (λ l. slot (is_kept words (place % room)) (get_or ring (place % room) 0) ∷ l) (slots-longer room ring longer words more (suc place) count e f))
 
 -- ---- a take
 
@@ -301,18 +281,6 @@ free-moved room words new place to n span i h k free freed others moved a b = el
   | inr l ↦ all-round (is_kept new) false (place + n) room ((to + i) % room) (mod_below (to + i) room (omega arith))
       (λ j m. free-taken room words new place n span j h k free freed others (omega arith) m)
 ]
-
--- a byte that stays kept stands where it stood
-pub used-moved : (room len : ℕ) (words new : List ℕ) (place to n span i : ℕ) → n ≤ span → span ≤ room
-    → ((j : ℕ) → j < span → is_kept words ((place + j) % room) ≡ true → (place + j) % room < len)
-    → ((j : ℕ) → n ≤ j → j < room → is_kept new ((place + j) % room) ≡ is_kept words ((place + j) % room))
-    → (0 < span - n → to ≡ place + n)
-    → i < span - n → is_kept new ((to + i) % room) ≡ true → (to + i) % room < len
-used-moved room len words new place to n span i h k used others moved a kept =
-    let e : to + i ≡ place + (n + i) = omega (arith, moved (omega arith)) in
-    let was : is_kept words ((place + (n + i)) % room) ≡ true =
-    sym (others (n + i) (omega arith) (omega arith)) ∙ ap (λ p. is_kept new (p % room)) (sym e) ∙ kept in
-    rw e (used (n + i) (omega arith) was)
 
 -- ---- walks
 

@@ -1,5 +1,5 @@
 -- The part of some bytes that a window keeps.
-use Rattle.std.proofs.Common.{◌≡◌, ℕ, ◌+◌, ◌-◌, ◌*◌, ◌^◌, ◌<◌, ◌≤◌, ◌==◌, min, max, Bool, false, true, List, [], ◌∷◌, length, take, drop, Option, refl, ap, arith}
+use Rattle.std.proofs.Common.{◌≡◌, ℕ, ◌+◌, ◌-◌, ◌^◌, ◌<◌, ◌≤◌, ◌==◌, min, max, Bool, false, true, List, [], ◌∷◌, length, take, drop, Option, refl, ap, arith}
 use Rattle.std.proofs.lemmas.List.{length-take}
 use Rattle.std.proofs.lemmas.Bool.Decides.{nat_tests}
 use Rattle.efi_window.specs.Places.{Places, put, held_after, after_put, after_take}
@@ -34,6 +34,3 @@ pub taken-window : (room cap taken count : ℕ) (items now : List (Option ℕ)) 
 taken-window room cap taken count items now e =
     let view : List (Option ℕ) → Places = λ l. record { room = room; cap = cap; taken = taken + count; held = l } in
     ap view e
-
-pub enough : (room new old : ℕ) → new ≡ old → room ≤ 64 * old → room ≤ 64 * new
-enough room new old e h = omega arith

@@ -1,6 +1,6 @@
 -- Places of a ring: two runs of it, one up to its end and one from its front.
 use Rattle.std.proofs.Common.{inl, inr, ◌∙◌, ◌≡◌, ℕ, ◌+◌, ◌-◌, ◌*◌, ◌/◌, ◌%◌, ◌<◌, ◌≤◌, Bool, true, false, List, length, get_or, take, drop, min, ap, sym, arith, ◌++◌}
-use Rattle.std.proofs.Math.Nat.{add-mod_right}
+use Rattle.std.proofs.Math.Nat.{add-mod_right, mod-le}
 use Rattle.std.proofs.lemmas.Bool.{cases_lt}
 use Rattle.std.proofs.lemmas.List.{get_or-take, get_or-drop, get_or_append_left, get_or-append_right, length-take, length-drop, length-append}
 use Rattle.std.proofs.lemmas.Nat.{div-add-mod', mod-mul-add, mod_below}
@@ -122,25 +122,9 @@ pieced place room count i ring fits h =
     ∙ get_or-drop (place % room) ring i 0
     ∙ ap (λ j. get_or ring j 0) (sym (near place room i (omega arith)))
 
--- a ring that holds all of some places is long enough for them, and the other way round
-pub reached : (at room count len : ℕ) → 0 < count → count ≤ room → ((i : ℕ) → i < count → (at + i) % room < len)
-    → min (at % room + count) room ≤ len
-reached at room count len some fits inside =
-    let low : at % room < room = mod_below at room (omega arith) in
-    elim (cases_lt (at % room + (count - 1)) room) [
-      | inl l ↦ omega (arith, near at room (count - 1) l, inside (count - 1) (omega arith))
-      | inr l ↦
-          let last : at % room + (room - 1 - at % room) < room = omega arith in
-          omega (arith, near at room (room - 1 - at % room) last, inside (room - 1 - at % room) (omega arith))
-    ]
-
-pub within-reach : (at room count len i : ℕ) → i < count → count ≤ room → min (at % room + count) room ≤ len → (at + i) % room < len
-within-reach at room count len i h fits enough =
-    let low : at % room < room = mod_below at room (omega arith) in
-    elim (cases_lt (at % room + i) room) [
-      | inl l ↦ omega (arith, near at room i l)
-      | inr l ↦ omega (arith, far at room i (omega arith) l)
-    ]
+-- a ring that is as long as it was used up to some places holds them, wherever they stand in it
+pub up-to : (place room count len : ℕ) → min (place + count) room ≤ len → min (place % room + count) room ≤ len
+up-to place room count len h = omega (arith, mod-le place room)
 
 -- what holds all round holds of each index
 pub all-round : (f : ℕ → Bool) (v : Bool) (place room k : ℕ) → k < room → ((i : ℕ) → i < room → f ((place + i) % room) ≡ v) → f k ≡ v

@@ -1,5 +1,5 @@
 -- The bits of words, one by one.
-use Rattle.std.proofs.Common.{inl, inr, ◌∙◌, ◌≡◌, ℕ, zero, suc, ◌+◌, ◌-◌, ◌*◌, ◌/◌, ◌%◌, ◌^◌, ◌<◌, ◌≤◌, ◌==◌, Bool, false, List, length, get_or, set, replicate, min, bit_and, bit_or, w64, refl, ap, sym, arith}
+use Rattle.std.proofs.Common.{inl, inr, ◌∙◌, ◌≡◌, ℕ, zero, suc, ◌+◌, ◌-◌, ◌*◌, ◌/◌, ◌%◌, ◌^◌, ◌<◌, ◌≤◌, ◌==◌, Bool, false, List, [], ◌∷◌, ◌++◌, length, get_or, set, replicate, min, bit_and, bit_or, w64, refl, ap, sym, arith}
 use Rattle.std.specs.Int.{bit_at, bit_not}
 use Rattle.std.proofs.lemmas.List.{get_or-set_other}
 use Rattle.std.proofs.lemmas.Grind.{get_or-set_at}
@@ -115,12 +115,21 @@ not-zero word i h k e = omega (arith, bit_at_not w64 word i h k, bit_at-lt word 
 pub not-one : (word i : ℕ) → word < 2 ^ 64 → i < 64 → bit_at (bit_not w64 word) i ≡ 1 → bit_at word i ≡ 0
 not-one word i h k e = omega (arith, bit_at_not w64 word i h k, bit_at-lt word i, e)
 
--- zeros keep nothing
+-- zeros behind a list say nothing new
 all-same : (z n i : ℕ) → get_or (replicate n z) i z ≡ z
 all-same z zero i = refl
 all-same z (suc n) zero = refl
 all-same z (suc n) (suc i) = all-same z n i
 
-pub none-kept : (n i : ℕ) → is_kept (replicate n 0) i ≡ false
+pub same-longer : (xs : List ℕ) (z n i : ℕ) → get_or (xs ++ replicate n z) i z ≡ get_or xs i z
+same-longer [] z n i = all-same z n i
+same-longer (x ∷ xs) z n zero = refl
+same-longer (x ∷ xs) z n (suc i) = same-longer xs z n i
+
+pub kept-longer : (words : List ℕ) (n i : ℕ) → is_kept (words ++ replicate n 0) i ≡ is_kept words i
 unfolding is_kept
-none-kept n i = is-one _ _ (ap (λ w. bit_at w (i % 64)) (all-same 0 n (i / 64)) ∙ bit_at-zero (i % 64))
+kept-longer words n i = is-one _ _ (ap (λ w. bit_at w (i % 64)) (same-longer words 0 n (i / 64)))
+
+pub none_kept : (i : ℕ) → is_kept [] i ≡ false
+unfolding is_kept
+none_kept i = is-one _ _ (bit_at-zero (i % 64))

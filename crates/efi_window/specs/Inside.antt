@@ -1,5 +1,5 @@
 -- What is true of each window that is kept in a ring.
-use Rattle.std.specs.Prelude.{◌≡◌, ◌+◌, ◌-◌, ◌*◌, ◌%◌, ◌^◌, ◌<◌, ◌≤◌, ℕ, true, false, length}
+use Rattle.std.specs.Prelude.{◌≡◌, ◌+◌, ◌-◌, ◌*◌, ◌%◌, ◌^◌, ◌<◌, ◌≤◌, ℕ, min, false, length}
 use Rattle.std.specs.Vec.{vec_capacity}
 use Rattle.efi_window.specs.Kept.{is_kept}
 use Rattle.efi_window.specs.declared.by_place.Window.TheInside.{Inside}
@@ -8,15 +8,19 @@ use Rattle.efi_window.specs.declared.by_place.Window.TheInside.{Inside}
 abbrev pub spot : Inside → ℕ → ℕ
 spot w i = (w.taken - w.origin + i) % w.room
 
--- There is memory for all of the window, what is kept lies within it and below 2^62, the ring is long enough for each byte that is
--- kept, and behind the last of them all places of the ring are free.
+-- how much of the ring is used, from its front on: up to the last byte, and all of it once that one stands past the ring's end
+abbrev pub used : Inside → ℕ
+used w = min (w.taken - w.origin + w.span) w.room
+
+-- There is memory for all of the window, what is kept lies within it and below 2^62, the ring and its bits reach as far as the ring is
+-- used, and behind the last byte all places of the ring are free.
 pub record IsWindow (w : Inside) : Type 0 where
   pub cap : w.cap ≤ w.room
-  pub ring : length w.ring.items ≤ w.room
-  pub memory : w.room ≤ vec_capacity w.ring
-  pub words : w.room ≤ 64 * length w.words.items
+  pub ring : used w ≤ length w.ring.items
+  pub words : used w ≤ 64 * length w.words.items
+  pub ring_memory : w.room ≤ vec_capacity w.ring
+  pub words_memory : w.room ≤ 64 * vec_capacity w.words
   pub span : w.span ≤ w.cap
   pub taken : w.taken + w.span ≤ 2 ^ 62
   pub origin : w.origin ≤ w.taken
-  pub used : (i : ℕ) → i < w.span → is_kept w.words.items (spot w i) ≡ true → spot w i < length w.ring.items
   pub free : (i : ℕ) → w.span ≤ i → i < w.room → is_kept w.words.items (spot w i) ≡ false

@@ -4,7 +4,15 @@ ghost use Rattle.std.specs.Int.{bit_at};
 ghost use Rattle.efi_window.specs.Kept.{is_kept};
 
 /// How many bits a word has.
-pub const WORD: usize = 64;
+const WORD: usize = 64;
+
+/// How many words have a bit for each of so many indices.
+pub fn words_for(count: usize) -> usize
+    ensures enough { count ≤ 64 * result }
+    ensures least { (words : ℕ) → count ≤ 64 * words → result ≤ words }
+{
+    count.div_ceil(WORD)
+}
 
 /// How many zeros stand in a word from a bit on.
 fn zeros_from(word: u64, from: usize) -> usize

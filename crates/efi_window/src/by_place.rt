@@ -1,11 +1,10 @@
 //! The window.
-ghost use Rattle.std.specs.Prelude.{◌≡◌, ◌+◌, ◌-◌, ◌^◌, ◌<◌, ◌≤◌, ◌++◌, [], ℕ, min, length, take, drop, IfOk, is_none, is_some, not, true, false, None, Some, get_or, vec_len, ◌*◌};
-ghost use Rattle.std.specs.Vec.{vec_capacity};
-ghost use Rattle.efi_window.specs.Kept.{is_kept};
+ghost use Rattle.std.specs.Prelude.{◌≡◌, ◌+◌, ◌-◌, ◌^◌, ◌<◌, ◌≤◌, ◌++◌, [], ℕ, min, length, take, drop, IfOk, is_none, is_some, not, true, None, Some, get_or};
 ghost use Rattle.std.specs.List.{list_all};
 ghost use Rattle.efi_window.specs.Places.{Places, fresh, ready_of, after_put, after_take};
 
-use crate::bits::WORD;
+use crate::bits::words_for;
+use crate::memory::{copied, lengthen};
 use crate::ring::{copy, free, piece, put, reach, run};
 use efi_base::NoMemory;
 use std::alloc::Global;
@@ -18,8 +17,8 @@ const END_OF_PLACES: u64 = 1 << 62;
 ///
 /// They stand in a ring, so what stays is never moved. A bit says whether a place is kept. `origin` is a place that stands
 /// at the ring's front; while nothing is kept it moves on with what was taken, so octets that come in order use the front
-/// alone. The ring is as long as it was used, within memory for all of it. `span` counts the places from the first one that
-/// wasn't taken up to the last byte.
+/// alone. The ring and its bits are as long as they were used, within memory for all of them. `span` counts the places
+/// from the first one that wasn't taken up to the last byte.
 #[derive(Debug, Drop)]
 pub struct Window {
     room: u32,
@@ -47,11 +46,12 @@ impl Model for Window {
 
 impl Window {
     /// An empty window of so many octets. Only this call and `try_clone` take memory.
+    #[tactic(auto, using(crate::proofs::Words::none_kept))]
     pub fn open(alloc: Global, cap: u32) -> Result<Window, NoMemory>
         ensures { IfOk result (λ w. w ≡ fresh cap cap) }
     {
         let ring = Vec::with_capacity(alloc, cap as usize)?;
-        let words = free_places(alloc, cap as usize)?;
+        let words = Vec::with_capacity(alloc, words_for(cap as usize))?;
         Ok(Window {
             room: cap,
             cap,
@@ -68,7 +68,7 @@ impl Window {
         ensures { IfOk result (λ w. w ≡ self.now) }
     {
         let ring = copied(alloc, &self.ring, self.room as usize)?;
-        let words = Vec::from_slice(alloc, &self.words)?;
+        let words = copied(alloc, &self.words, words_for(self.room as usize))?;
         Ok(Window {
             room: self.room,
             cap: self.cap,
@@ -90,7 +90,9 @@ impl Window {
         if !bytes.is_empty() {
             let room = self.room as usize;
             let at = first - self.origin;
-            reach(&mut self.ring, room, at, bytes.len());
+            let used = reach(room, at, bytes.len());
+            lengthen(&mut self.ring, used, 0);
+            lengthen(&mut self.words, words_for(used), 0);
             put(&mut self.ring, &mut self.words, room, at, bytes);
             self.span = self.span.max(first - self.taken + bytes.len() as u64);
         }
@@ -212,18 +214,14 @@ impl Window {
     }
 
     /// Empties the window and gives it another length, without taking memory.
+    #[tactic(auto, using(crate::proofs::Words::none_kept))]
     pub fn clear(&mut self, cap: u32)
         requires least { 1 ≤ cap }
         requires most { cap ≤ self.old.room }
         ensures { self.new ≡ fresh self.old.room cap }
     {
-        free(
-            &mut self.words,
-            self.room as usize,
-            self.taken - self.origin,
-            self.span as usize,
-        );
         self.ring.clear();
+        self.words.clear();
         self.taken = 0;
         self.origin = 0;
         self.span = 0;
@@ -254,22 +252,4 @@ fn within(bytes: &[u8], skipped: u64, most: u64) -> &[u8]
         return rest;
     }
     &rest[..most as usize]
-}
-
-/// The octets of a ring, with memory for so many of them.
-fn copied(alloc: Global, octets: &[u8], len: usize) -> Result<Vec<u8>, NoMemory>
-    ensures octets { IfOk result (λ v. v.items ≡ octets.now) }
-    ensures memory { IfOk result (λ v. len ≤ vec_capacity v) }
-{
-    let mut ring = Vec::with_capacity(alloc, len)?;
-    ring.extend_from_slice(octets)?;
-    Ok(ring)
-}
-
-/// Bits for so many places, of which none is kept.
-fn free_places(alloc: Global, len: usize) -> Result<Vec<u64>, NoMemory>
-    ensures { IfOk result (λ v. (len ≤ 64 * vec_len v) × ((i : ℕ) → is_kept v.items i ≡ false)) }
-{
-    let words = vec![in alloc; 0; len.div_ceil(WORD)]?;
-    Ok(words)
 }

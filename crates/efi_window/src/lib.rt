@@ -6,6 +6,8 @@
 mod bits;
 // the window
 mod by_place;
+// vectors within memory that was taken before
+mod memory;
 // a ring, by place
 mod ring;
 // runs of a ring
@@ -14,6 +16,7 @@ mod runs;
 mod same;
 
 pub use by_place::Window;
+pub use memory::lengthen;
 
 #[cfg(test)]
 mod tests;

@@ -1,37 +1,25 @@
-//! A ring of bytes by place: a place stands at its number modulo the ring's room. The ring is as long as it was used. Which
-//! places are kept, bits of words say.
-ghost use Rattle.std.specs.Prelude.{◌≡◌, ◌+◌, ◌-◌, ◌*◌, ◌%◌, ◌<◌, ◌≤◌, ◌++◌, ℕ, true, false, not, length, get_or, drop, min, vec_len};
-ghost use Rattle.std.specs.Vec.{vec_capacity};
+//! A ring of bytes by place: a place stands at its number modulo the ring's room. Which places are kept, bits of words say. The
+//! ring and its bits are as long as they were used.
+ghost use Rattle.std.specs.Prelude.{◌≡◌, ◌+◌, ◌-◌, ◌*◌, ◌%◌, ◌<◌, ◌≤◌, ◌++◌, ℕ, true, false, not, length, get_or, drop, min};
 ghost use Rattle.efi_window.specs.Kept.{is_kept, IsPlaced};
 
 use crate::bits::{mark, run_end};
 use crate::runs::put_run;
 
-/// Makes a ring long enough for so many places from one on. It takes no memory: there is enough for all of the ring.
-pub fn reach(ring: &mut Vec<u8>, room: usize, place: u64, count: usize)
-    requires some { 0 < room }
-    requires most { vec_len ring.old ≤ room }
-    requires memory { room ≤ vec_capacity ring.old }
-    ensures enough { min (place % room + count) room ≤ vec_len ring.new }
-    ensures longer { vec_len ring.old ≤ vec_len ring.new }
-    ensures most { vec_len ring.new ≤ room }
-    ensures memory { room ≤ vec_capacity ring.new }
-    ensures same { (i : ℕ) → get_or ring.new.items i 0 ≡ get_or ring.old.items i 0 }
+/// How long a ring is that was used from its front up to the end of so many places from one on: as long as its room once they
+/// go round.
+pub fn reach(room: usize, place: u64, count: usize) -> usize
+    ensures { result ≡ min (place + count) room }
 {
-    let at = (place % room as u64) as usize;
-    let len = at + count.min(room - at);
-    if ring.len() < len {
-        let _ = ring.resize(len, 0);
-    }
+    place.saturating_add(count as u64).min(room as u64) as usize
 }
 
 /// Keeps bytes from a place on, in at most two runs. A byte that is kept there already stays.
 pub fn put(ring: &mut [u8], words: &mut [u64], room: usize, place: u64, bytes: &[u8])
     requires some { 0 < room }
     requires fits { length bytes.now ≤ room }
-    requires most { length ring.old ≤ room }
     requires enough { min (place % room + length bytes.now) room ≤ length ring.old }
-    requires words { room ≤ 64 * length words.old }
+    requires words { min (place % room + length bytes.now) room ≤ 64 * length words.old }
     ensures { IsPlaced room place bytes.now ring.old words.old ring.new words.new }
 {
     let at = (place % room as u64) as usize;
@@ -43,7 +31,7 @@ pub fn put(ring: &mut [u8], words: &mut [u64], room: usize, place: u64, bytes: &
 /// How many places from one on, up to so many, are all kept or all free.
 pub fn run(words: &[u64], room: usize, set: bool, place: u64, most: usize) -> usize
     requires fits { most ≤ room }
-    requires words { room ≤ 64 * length words.now }
+    requires words { 0 < most → min (place % room + most) room ≤ 64 * length words.now }
     ensures most { result ≤ most }
     ensures alike { (i : ℕ) → i < result → is_kept words.now ((place + i) % room) ≡ set }
     ensures ends { result < most → is_kept words.now ((place + result) % room) ≡ not set }
@@ -105,7 +93,7 @@ pub fn copy(ring: &[u8], room: usize, place: u64, count: usize, out: &mut [u8])
 /// Frees so many places from one on.
 pub fn free(words: &mut [u64], room: usize, place: u64, count: usize)
     requires fits { count ≤ room }
-    requires words { room ≤ 64 * length words.old }
+    requires words { 0 < count → min (place % room + count) room ≤ 64 * length words.old }
     ensures len { length words.new ≡ length words.old }
     ensures freed { (i : ℕ) → i < count → is_kept words.new ((place + i) % room) ≡ false }
     ensures others { (i : ℕ) → count ≤ i → i < room → is_kept words.new ((place + i) % room) ≡ is_kept words.old ((place + i) % room) }

@@ -7,7 +7,7 @@ use crate::bits::{mark, run_end};
 /// Keeps bytes from an index on, where none is kept.
 fn keep(ring: &mut [u8], words: &mut [u64], at: usize, bytes: &[u8])
     requires end { at + length bytes.now ≤ length ring.old }
-    requires words { length ring.old ≤ 64 * length words.old }
+    requires words { at + length bytes.now ≤ 64 * length words.old }
     requires free { (i : ℕ) → at ≤ i → i < at + length bytes.now → is_kept words.old i ≡ false }
     ensures { IsPut at (length bytes.now) bytes.now ring.old words.old ring.new words.new }
 {
@@ -19,7 +19,7 @@ fn keep(ring: &mut [u8], words: &mut [u64], at: usize, bytes: &[u8])
 /// Keeps bytes from an index on. A byte that is kept there already stays.
 pub fn put_run(ring: &mut [u8], words: &mut [u64], at: usize, bytes: &[u8])
     requires end { at + length bytes.now ≤ length ring.old }
-    requires words { length ring.old ≤ 64 * length words.old }
+    requires words { at + length bytes.now ≤ 64 * length words.old }
     ensures { IsPut at (length bytes.now) bytes.now ring.old words.old ring.new words.new }
 {
     let end = at + bytes.len();

@@ -13,7 +13,7 @@ enum Step {
 /// A window of a length, and the steps of its case.
 type Case = (u32, &'static [Step]);
 
-const CASES: [Case; 4] = [
+const CASES: [Case; 5] = [
     // the part inside is kept
     (
         8,
@@ -58,6 +58,21 @@ const CASES: [Case; 4] = [
             Step::Take(2, b"eF"),
             Step::Put(8, b"xxkl"),
             Step::Take(9, b"gHiJkl"),
+        ],
+    ),
+    // round the ring's end behind a gap of whole words
+    (
+        130,
+        &[
+            Step::Put(0, b"abcdefgh"),
+            Step::Take(5, b"abcde"),
+            Step::Put(134, b"yz"),
+            Step::IsFree(8, false),
+            Step::IsFree(135, true),
+            Step::Put(8, b"ij"),
+            Step::Take(16, b"fghij"),
+            Step::IsFree(134, false),
+            Step::IsFree(135, true),
         ],
     ),
     // nothing fits
@@ -154,6 +169,34 @@ fn cleared(rt: HostRuntime) {
     assert!(rt; window.is_free_from(0));
     window.put(0, b"0123456789");
     assert_eq!(rt; (window.taken(), window.ready(), window.cap()), (0, 5, 5));
+}
+
+/// Whether the last of 200 places is kept behind a gap.
+fn keeps_last(window: &mut Window) -> bool {
+    for step in [
+        Step::Put(199, b"yz"),
+        Step::Ready(0),
+        Step::IsFree(199, false),
+        Step::IsFree(200, true),
+    ] {
+        if !shows(window, step) {
+            return false;
+        }
+    }
+    true
+}
+
+#[test]
+fn last_places(rt: HostRuntime) {
+    let mut window = Window::open(rt.alloc(), 200).expect(&rt, "memory for 200");
+    window.put(0, b"abc");
+    window.put(150, b"x");
+    window.clear(200);
+    let mut clone = window
+        .try_clone(rt.alloc())
+        .expect(&rt, "memory for a clone");
+    assert!(rt; keeps_last(&mut window));
+    assert!(rt; keeps_last(&mut clone));
 }
 
 /// What is done with one window and with another, and whether they hold the same then.

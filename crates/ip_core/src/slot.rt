@@ -7,7 +7,7 @@ ghost use Rattle.ip_core.specs.Bytes.{Bytes, bytes_kept, bytes_with, end_with};
 ghost use Rattle.ip_core.specs.Seen.{key_seen};
 
 use efi_base::{Ip4, NoMemory};
-use efi_window::Window;
+use efi_window::{Window, lengthen};
 use std::alloc::Global;
 use std::marker::Model;
 use wire_ip4::Ip;
@@ -147,24 +147,10 @@ impl Slot {
         if self.window.ready() < end {
             return None;
         }
-        reach(room, end as usize);
+        lengthen(room, end as usize, 0);
         self.window.take(room);
         self.window.clear(MOST_OCTETS);
         Some(end as usize)
-    }
-}
-
-/// Makes a room long enough for so many octets. It takes no memory: there is enough for a whole datagram.
-fn reach(room: &mut Vec<u8>, len: usize)
-    requires within { len ≤ most_bytes }
-    requires most { vec_len room.old ≤ most_bytes }
-    requires memory { most_bytes ≤ vec_capacity room.old }
-    ensures enough { len ≤ vec_len room.new }
-    ensures most { vec_len room.new ≤ most_bytes }
-    ensures memory { most_bytes ≤ vec_capacity room.new }
-{
-    if room.len() < len {
-        let _ = room.resize(len, 0);
     }
 }
 

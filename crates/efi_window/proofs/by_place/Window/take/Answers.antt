@@ -1,8 +1,8 @@
 use Rattle.std.proofs.Common.{inl, inr, ◌∙◌, ◌≡◌, ◌+◌, ◌-◌, ◌%◌, ◌<◌, ◌≤◌, ℕ, true, length, get_or, ap, sym, arith}
 use Rattle.efi_window.specs.Kept.{is_kept, slots}
-use Rattle.efi_window.proofs.Cells.{ready-slots, taken-bytes, slots-moved, free-moved, used-moved}
-use Rattle.efi_window.proofs.Parts.{taken-window, enough}
-use Rattle.efi_window.proofs.Rounds.{reached}
+use Rattle.efi_window.proofs.Cells.{ready-slots, taken-bytes, slots-moved, free-moved}
+use Rattle.efi_window.proofs.Parts.{taken-window}
+use Rattle.efi_window.proofs.Rounds.{up-to}
 use Rattle.std.proofs.lemmas.Bool.{cases_lt}
 use Rattle.std.proofs.lemmas.List.{with_items_is}
 use Rattle.efi_window.proofs.by_place.Window.take.Goals as goal
@@ -20,33 +20,33 @@ invariant_of-self c =
     let span : c.self.inside.span ≤ c.self.inside.room = omega (arith, c.self.invariant.span, c.self.invariant.cap) in
     let moved : 0 < c.self.inside.span - c.min-count.result → to ≡ base + c.min-count.result =
     λ l. omega (arith, c.front_of-self-inside.ensures.stays l, c.self.invariant.origin) in
+    let used : to + (c.self.inside.span - c.min-count.result) ≤ base + c.self.inside.span = elim (cases_lt 0 (c.self.inside.span - c.min-count.result)) [
+      | inl l ↦ omega (arith, moved l)
+      | inr l ↦ omega (arith, c.front_of-self-inside.ensures.moves (omega arith))
+    ] in
     record {
       cap = c.self.invariant.cap;
-      ring = c.self.invariant.ring;
-      memory = c.self.invariant.memory;
-      words = enough c.self.inside.room _ _ (ap length bits ∙ c.free.ensures.len ∙ old) c.self.invariant.words;
+      ring = omega (arith, c.self.invariant.ring, used);
+      words = omega (arith, c.self.invariant.words, used, ap length bits, c.free.ensures.len, old);
+      ring_memory = c.self.invariant.ring_memory;
+      words_memory = c.self.invariant.words_memory;
       span = omega (arith, c.self.invariant.span);
       taken = omega (arith, c.self.invariant.taken);
       origin = elim (cases_lt 0 (c.self.inside.span - c.min-count.result)) [
         | inl l ↦ omega (arith, c.front_of-self-inside.ensures.stays l, c.self.invariant.origin)
         | inr l ↦ omega (arith, c.front_of-self-inside.ensures.moves (omega arith))
       ];
-      used = λ i h k. used-moved c.self.inside.room (length c.self.inside.ring.items) c.self.inside.words.items c.free.new.words base to c.min-count.result c.self.inside.span i
-          count span c.self.invariant.used others moved h (ap (λ w. is_kept w ((to + i) % c.self.inside.room)) (sym bits) ∙ k);
       free = λ i h k. ap (λ w. is_kept w ((to + i) % c.self.inside.room)) bits
           ∙ free-moved c.self.inside.room c.self.inside.words.items c.free.new.words base to c.min-count.result c.self.inside.span i
           count span c.self.invariant.free c.free.ensures.freed others moved h k;
     }
 
 pub copy-requires-clause-enough : goal.copy-requires-clause-enough
-copy-requires-clause-enough c = λ some.
+copy-requires-clause-enough c = λ _.
     let base : ℕ = c.self.inside.taken - c.self.inside.origin in
     let len : length c.deref-2.result.now ≡ length c.self.inside.ring.items = ap length c.deref-2.ensures.value in
-    let kept : (i : ℕ) → i < c.min-count.result → (base + i) % c.self.inside.room < length c.self.inside.ring.items = λ i h.
-    c.self.invariant.used i (omega (arith, c.min-count.ensures, c.run-ready.ensures.most))
-    (ap (λ w. is_kept w ((base + i) % c.self.inside.room)) (sym c.deref.ensures.value) ∙ c.run-ready.ensures.alike i (omega (arith, c.min-count.ensures))) in
-    rw len (reached base c.self.inside.room c.min-count.result (length c.self.inside.ring.items) some
-    (omega (arith, c.min-count.ensures, c.run-ready.ensures.most, c.self.invariant.span, c.self.invariant.cap)) kept)
+    rw len (up-to base c.self.inside.room c.min-count.result (length c.self.inside.ring.items)
+    (omega (arith, c.min-count.ensures, c.run-ready.ensures.most, c.self.invariant.ring)))
 
 pub returns-clause-count : goal.returns-clause-count
 returns-clause-count c =

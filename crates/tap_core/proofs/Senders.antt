@@ -18,7 +18,7 @@ use Rattle.tap_core.specs.declared.early.Early.{Early}
 use Rattle.tap_core.specs.declared.fragments.Fragment.{Fragment}
 use Rattle.tap_core.specs.declared.views.View.{View}
 use Rattle.tap_core.specs.Early.{has_view, is_spare, is_view_of, most_views, view_with, AreApart, AreLast, AreNeeded, AreSenders, ComesFrom, IsAlone, IsRefused, IsSender, IsSettled}
-use Rattle.tap_core.specs.Recent.{sent_one, AreSentBy, IsSentAlike}
+use Rattle.tap_core.specs.Recent.{sent_one, SentByMoreThan, HasSenderIn}
 use Rattle.tap_core.specs.Shown.{sent_by}
 use Rattle.tap_core.proofs.Apart.{Change, has-with, of-taken, or-left, or-none, or-right, spare-of, All-removed}
 
@@ -159,7 +159,7 @@ sent-behind station [] rest r h = ap (λ b. b || list_any (sent_by station) rest
 sent-behind station (q ∷ front) rest r h = or-true (sent_by station q) (list_any (sent_by station) (front ++ r ∷ rest)) (sent-behind station front rest r h)
 
 -- who sent the first that waits sent one of the fragments
-pub first-sent : (fragments : List Record) (waiting rest : List Fragment) (k : Fragment) → waiting ≡ k ∷ rest → AreLast fragments waiting → IsSentAlike fragments k.record
+pub first-sent : (fragments : List Record) (waiting rest : List Fragment) (k : Fragment) → waiting ≡ k ∷ rest → AreLast fragments waiting → HasSenderIn fragments k.record
 first-sent fragments waiting rest k items l = λ station sent.
     let parts : fragments ≡ l.front ++ k.record ∷ map (λ (f : Fragment). f.record) rest =
     l.parts ∙ ap (λ w. l.front ++ map (λ (f : Fragment). f.record) w) items
@@ -215,15 +215,15 @@ stations-sent records (v ∷ views) none h =
     (stations-sent records views (or-right (is_spare v) (list_any is_spare views) none) (All-tail (Sent records) v views h))
 
 -- those that have a view, and one that has none
-pub stations-many : (most : ℕ) (records : List Record) (r : Record) (views : List View) → IsSentAlike records r → AreSenders records views
-    → IsRefused most r views → AreSentBy (suc most) records
+pub stations-many : (most : ℕ) (records : List Record) (r : Record) (views : List View) → HasSenderIn records r → AreSenders records views
+    → IsRefused most r views → SentByMoreThan most records
 stations-many most records r views alike h full = record {
   stations = full.sender ∷ map bytes_of views;
   different = AllPairs-cons (λ a b. a ≢ b) full.sender (map bytes_of views) (others-of full.sender views full.none_spare full.unknown)
       (stations-differ views full.none_spare h.apart);
   sent = All-cons (λ s. sent_one records s ≡ true) full.sender (map bytes_of views) (alike full.sender full.sent)
       (stations-sent records views full.none_spare h.sent);
-  many = omega (arith, full.many, length-map views bytes_of);
+  more = omega (arith, full.many, length-map views bytes_of);
 }
 
 -- where none can be heard, so many stations sent some

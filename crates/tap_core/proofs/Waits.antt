@@ -16,7 +16,7 @@ use Rattle.tap_core.specs.declared.fragments.Fragment.{Fragment}
 use Rattle.tap_core.specs.declared.fragments.Fragments.{Fragments}
 use Rattle.tap_core.specs.Early.{after_waiting, pools_behind, AreLast, CameBy, Keeps, Left, OpenedBy}
 use Rattle.tap_core.specs.Frames.{heard_packet, holds_fragment}
-use Rattle.tap_core.specs.Recent.{latest_of, recent_after, recent_at, recent_of}
+use Rattle.tap_core.specs.Recent.{greatest_tick, recent_after, recent_at, recent_of}
 use Rattle.tap_core.proofs.Kept.{event-same, open-open}
 
 -- a record sees the pools that are open at its tick
@@ -90,13 +90,13 @@ recent-fragment fragments r here = rw here refl
 pub recent-other : (fragments : List Record) (r : Record) → holds_fragment r.frame ≡ false → recent_at r.tick.0 fragments ≡ recent_after fragments r
 recent-other fragments r none = rw none refl
 
-pub recent-lasts : (now : ℕ) (fragments : List Record) → now - latest_of fragments < lifetime → fragments ≡ recent_at now fragments
-recent-lasts now fragments h = rw (lt-ltb (now - latest_of fragments) lifetime h) refl
+pub recent-lasts : (now : ℕ) (fragments : List Record) → now - greatest_tick fragments < lifetime → fragments ≡ recent_at now fragments
+recent-lasts now fragments h = rw (lt-ltb (now - greatest_tick fragments) lifetime h) refl
 
-pub recent-over : (now : ℕ) (fragments : List Record) → lifetime ≤ now - latest_of fragments → [] ≡ recent_at now fragments
-recent-over now fragments h = rw (le-ltb (now - latest_of fragments) lifetime h) refl
+pub recent-over : (now : ℕ) (fragments : List Record) → lifetime ≤ now - greatest_tick fragments → [] ≡ recent_at now fragments
+recent-over now fragments h = rw (le-ltb (now - greatest_tick fragments) lifetime h) refl
 
-pub latest-more : (fragments : List Record) (r : Record) → latest_of (fragments ++ r ∷ []) ≡ max (latest_of fragments) r.tick.0
+pub latest-more : (fragments : List Record) (r : Record) → greatest_tick (fragments ++ r ∷ []) ≡ max (greatest_tick fragments) r.tick.0
 latest-more fragments r = fold-append (λ t (q : Record). max t q.tick.0) 0 fragments (r ∷ [])
 
 -- one more waits, the last

@@ -1,6 +1,6 @@
 -- What is kept of the records in front of the segment that asks for a connection, while no station is known: the pools that
 -- fragments left open to stations that sent some of them, each apart, and those that they left to all others alike.
-use Rattle.std.specs.Prelude.{◌≡◌, ◌⊎◌, ⊤, ℕ, suc, ◌≤◌, max, Bool, true, false, List, [], ◌∷◌, ◌++◌, map, fold, All, Option, Some, None, ◌+◌, ◌/◌, length, is_none}
+use Rattle.std.specs.Prelude.{◌≡◌, ◌⊎◌, ⊤, ℕ, ◌≤◌, max, Bool, true, false, List, [], ◌∷◌, ◌++◌, map, fold, All, Option, Some, None, ◌+◌, ◌/◌, length, is_none}
 use Rattle.std.specs.List.{list_any, sum_by}
 use Rattle.std.specs.Option.{option_map_or}
 use Rattle.std.specs.Str.{bytes_eq}
@@ -17,7 +17,7 @@ use Rattle.tap_core.specs.declared.fragments.Fragments.{Fragments}
 use Rattle.tap_core.specs.declared.views.View.{View}
 use Rattle.tap_core.specs.Frames.{heard_packet, is_sent}
 use Rattle.tap_core.specs.Hearing.{pools_by}
-use Rattle.tap_core.specs.Recent.{AreSentBy, latest_of, recent_of, sent_one}
+use Rattle.tap_core.specs.Recent.{SentByMoreThan, greatest_tick, recent_of, sent_one}
 
 -- the packets that a station hears, or one that sent none of the frames
 abbrev pub packets_of : Option Mac → List ℕ → Option Packet
@@ -76,7 +76,7 @@ pub record AreLeft (left : Left) (others : List (Pool Bytes)) (views : List View
 abbrev pub octets_of : Record → ℕ
 octets_of r = length r.frame + 64
 
--- the octets that are told of fragments that wait are theirs
+-- the count of octets is that of the fragments that wait
 abbrev pub AreCounted : Fragments → Type 0
 AreCounted f = f.octets ≡ sum_by (λ k. octets_of k.record) f.kept.items
 
@@ -100,11 +100,11 @@ IsNotFrom station r = is_sent station r.frame ≡ false
 abbrev pub tick_of : Fragment → ℕ
 tick_of f = max f.passed.0 f.record.tick.0
 
--- at its ticks a fragment is dropped from these pools, so that it does no more to them than the ticks
+-- at a fragment's ticks these pools drop it, so that it does no more to them than the ticks
 abbrev pub drops : Fragment → List (Pool Bytes) → Bool
 drops f pools = option_map_or (λ p. is_dropped p (open_at (tick_of f) pools)) (packet_in_frame packet_of f.record.frame) false
 
--- whoever has no view is left the same by a fragment as the others are, as where it didn't send it, or the others drop it
+-- the fragment leaves the same to each station that has no view as to one that sent none of the fragments
 abbrev pub AreAlike : Fragment → List (Pool Bytes) → List View → Type 0
 AreAlike f others views = (station : List ℕ) → has_view station views ≡ false → after_waiting (heard_packet station) others f ≡ after_waiting (packets_of None) others f
 
@@ -116,8 +116,8 @@ OpenedBy tick p = p.opened ≤ tick
 abbrev pub CameBy : ℕ → Fragment → Type 0
 CameBy tick f = f.record.tick.0 ≤ tick
 
--- Whoever is the station, this is left to it: the views have some pools, from which the fragments that wait make what is left. None of
--- the pools in the views opened later than the latest tick, and no fragment that waits has a later one; their octets are counted.
+-- Whoever is the station, this is left to it: `before` is what the fragments left that were heard, which the views have, and from which
+-- those that wait make it. No pool opened later than the latest tick, no fragment that waits has a later one, and their octets are counted.
 pub record Keeps (left : Left) (e : Early) : Type 0 where
   pub before : Left
   pub views : AreLeft before e.views.others e.views.apart.items
@@ -151,14 +151,14 @@ pub record AreSenders (records : List Record) (views : List View) : Type 0 where
   pub apart : AreApart views
   pub sent : All (λ v. IsSender records v.station) views
 
--- Fragments that wait are the last of these, in order, the latest tick is the greatest of theirs, and the stations that have a view sent
--- some of them.
+-- Fragments that wait are the last of these, in order; the latest tick is the greatest of all of these; and no two views are of one
+-- station, and each that isn't spare is of one that sent some of these.
 pub record ComesFrom (fragments : List Record) (e : Early) : Type 0 where
   pub last : AreLast fragments e.waiting.kept.items
-  pub latest : e.latest.0 ≡ latest_of fragments
+  pub latest : e.latest.0 ≡ greatest_tick fragments
   pub senders : AreSenders fragments e.views.apart.items
 
--- the sender of a record has no view, none is spare, and there are this many
+-- the sender of a record has no view, none is spare, and there are at least this many
 pub record IsRefused (most : ℕ) (r : Record) (views : List View) : Type 0 where
   pub many : most ≤ length views
   pub none_spare : list_any is_spare views ≡ false
@@ -166,23 +166,23 @@ pub record IsRefused (most : ℕ) (r : Record) (views : List View) : Type 0 wher
   pub sent : is_sent sender r.frame ≡ true
   pub unknown : has_view sender views ≡ false
 
--- the sender of the first that waits has no view, and there are as many as may be while so many octets wait
-pub record IsFull (e : Early) : Type 0 where
+-- the sender of the first that waits has no view, and there are at least as many as may be while so many octets wait
+pub record IsFirstRefused (e : Early) : Type 0 where
   pub first : Fragment
   pub rest : List Fragment
   pub waiting : e.waiting.kept.items ≡ first ∷ rest
   pub refused : IsRefused (most_views e.waiting.octets) first.record e.views.apart.items
 
--- none waits, or no more can be heard
+-- none waits, or there is no view for the sender of the first
 abbrev pub IsSettled : Early → Type 0
-IsSettled e = (e.waiting.kept.items ≡ []) ⊎ IsFull e
+IsSettled e = (e.waiting.kept.items ≡ []) ⊎ IsFirstRefused e
 
--- none waits, or the fragments came from 17 stations, and from one more for each 262,144 octets that wait
+-- none waits, or the fragments came from more than 16 stations, and from one more for each full 262,144 octets that wait
 abbrev pub AreNeeded : List Record → Fragments → Type 0
-AreNeeded fragments w = (w.kept.items ≡ []) ⊎ AreSentBy (suc (most_views w.octets)) fragments
+AreNeeded fragments w = (w.kept.items ≡ []) ⊎ SentByMoreThan (most_views w.octets) fragments
 
--- Whoever is the station, what is kept leaves the pools that the records leave. No record is kept but the last fragments that are
--- recent, and none of them where those came from 16 stations or fewer; for each station more at most 262,144 octets of them are.
+-- Whoever is the station, what is kept leaves the pools that the records leave. No record is kept but the last of the recent fragments:
+-- none where these came from at most 16 stations, and where from n more, fewer octets than n times 262,144, with 64 for each.
 pub record KeepsFragments (records : List Record) (e : Early) : Type 0 where
   pub keeps : Keeps (left_by records) e
   pub comes : ComesFrom (recent_of records) e

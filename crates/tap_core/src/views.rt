@@ -9,7 +9,7 @@ ghost use Rattle.ip_core.specs.Pools.{open_at};
 ghost use Rattle.tap_core.specs.declared.views.View.{View};
 ghost use Rattle.tap_core.specs.Early.{AreAlike, AreLeft, AreSenders, IsFreed, IsNotFrom, IsRefused, Left, after_waiting, drops, has_view, is_spare, is_view_of, most_views, packets_of, view_after, view_at};
 ghost use Rattle.tap_core.specs.Frames.{heard_packet, is_sent};
-ghost use Rattle.tap_core.specs.Recent.{IsSentAlike, sent_one};
+ghost use Rattle.tap_core.specs.Recent.{HasSenderIn, sent_one};
 
 use crate::fragments::Fragment;
 use crate::packets::read_packet;
@@ -108,7 +108,7 @@ impl Views {
         ensures alike { IfOk result (λ room. room ≡ true → AreAlike fragment.now self.new.others self.new.apart.items) }
         ensures full { IfOk result (λ room. room ≡ false → IsRefused most fragment.now.record self.new.apart.items) }
         ensures few { OnOk result (vec_len self.new.apart ≤ max (vec_len self.old.apart) most) }
-        ensures senders { (fragments : List Record) → IsSentAlike fragments fragment.now.record → AreSenders fragments self.old.apart.items
+        ensures senders { (fragments : List Record) → HasSenderIn fragments fragment.now.record → AreSenders fragments self.old.apart.items
             → OnOk result (AreSenders fragments self.new.apart.items) }
     {
         if self.drops(fragment) {
@@ -134,7 +134,7 @@ impl Views {
         ensures here { IfOk result (λ known. known ≡ true → (station : List ℕ) → has_view station self.new.apart.items ≡ false → IsNotFrom station «record».now) }
         ensures full { IfOk result (λ known. known ≡ false → IsRefused most «record».now self.new.apart.items) }
         ensures few { OnOk result (vec_len self.new.apart ≤ max (vec_len self.old.apart) most) }
-        ensures senders { (fragments : List Record) → IsSentAlike fragments «record».now → AreSenders fragments self.old.apart.items
+        ensures senders { (fragments : List Record) → HasSenderIn fragments «record».now → AreSenders fragments self.old.apart.items
             → OnOk result (AreSenders fragments self.new.apart.items) }
     {
         match read_ether(record.frame.as_slice()) {

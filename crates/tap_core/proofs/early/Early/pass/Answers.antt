@@ -4,7 +4,7 @@ use Rattle.ip_core.specs.Pools.{lifetime, open_at}
 use Rattle.wire_ip4.specs.Packet.{Packet}
 use Rattle.tap_core.specs.Early.{after_waiting, CameBy, OpenedBy}
 use Rattle.tap_core.specs.Frames.{heard_packet}
-use Rattle.tap_core.specs.Recent.{latest_of}
+use Rattle.tap_core.specs.Recent.{greatest_tick}
 use Rattle.std.proofs.lemmas.List.Elements.{All-nil}
 use Rattle.tap_core.proofs.Kept.{behind-fades, fades}
 use Rattle.tap_core.proofs.Passing.{comes-lasts, comes-over, needed-lasts}
@@ -31,17 +31,17 @@ returns-clause-keeps c = λ left k.
 
 pub returns-then-saturating_sub-lt-LIFETIME-clause-comes : goal.returns-then-saturating_sub-lt-LIFETIME-clause-comes
 returns-then-saturating_sub-lt-LIFETIME-clause-comes c = λ fragments h.
-    let lasts : c.args.now.0 - latest_of fragments < lifetime = omega (arith, c.if-saturating_sub-lt-LIFETIME.true, c.saturating_sub.ensures, h.latest) in
+    let lasts : c.args.now.0 - greatest_tick fragments < lifetime = omega (arith, c.if-saturating_sub-lt-LIFETIME.true, c.saturating_sub.ensures, h.latest) in
     comes-lasts c.args.now.0 fragments c.args.self.now _ lasts c.pass.ensures.kept refl refl h
 
 pub returns-then-saturating_sub-lt-LIFETIME-clause-needed : goal.returns-then-saturating_sub-lt-LIFETIME-clause-needed
 returns-then-saturating_sub-lt-LIFETIME-clause-needed c = λ fragments h needed.
-    let lasts : c.args.now.0 - latest_of fragments < lifetime = omega (arith, c.if-saturating_sub-lt-LIFETIME.true, c.saturating_sub.ensures, h.latest) in
+    let lasts : c.args.now.0 - greatest_tick fragments < lifetime = omega (arith, c.if-saturating_sub-lt-LIFETIME.true, c.saturating_sub.ensures, h.latest) in
     needed-lasts c.args.now.0 fragments c.args.self.now.waiting c.pass.new.self lasts c.pass.ensures.kept c.pass.ensures.octets needed
 
 pub returns-clause-comes : goal.returns-clause-comes
 returns-clause-comes c = λ fragments h.
-    let over : lifetime ≤ c.args.now.0 - latest_of fragments = omega (arith, c.if-saturating_sub-lt-LIFETIME.false, c.saturating_sub.ensures, h.latest) in
+    let over : lifetime ≤ c.args.now.0 - greatest_tick fragments = omega (arith, c.if-saturating_sub-lt-LIFETIME.false, c.saturating_sub.ensures, h.latest) in
     comes-over c.args.now.0 fragments _ over c.forget.ensures.kept refl c.close.ensures.none
 
 pub returns-clause-needed : goal.returns-clause-needed

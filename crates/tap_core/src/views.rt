@@ -19,7 +19,7 @@ use std::alloc::Global;
 use wire_link::read_ether;
 
 /// How many stations' pools may be kept apart, whatever waits: as many as there are pools, each of which a sender may leave
-/// open. A view takes memory for all its pools, some 1.2 MB; of that 0.2 MB is in use at once, and what its open pools hold.
+/// open. A view takes memory for all its pools, some 1.2 MB; of that is in use what its open pools hold, and an eighth more.
 const VIEWS: usize = POOLS;
 
 /// For how many octets of memory that wait one more may be kept apart.

@@ -47,3 +47,7 @@ after_put w place bytes = record { room = w.room; cap = w.cap; taken = w.taken; 
 -- the first bytes were taken
 abbrev pub after_take : Places → ℕ → Places
 after_take w count = record { room = w.room; cap = w.cap; taken = w.taken + count; held = drop count w.held }
+
+-- so many bytes that stand next were passed on, where none is kept
+abbrev pub after_pass : Places → ℕ → Places
+after_pass w count = record { room = w.room; cap = w.cap; taken = w.taken + count; held = [] }

@@ -1,7 +1,7 @@
 //! The window.
-ghost use Rattle.std.specs.Prelude.{◌≡◌, ◌+◌, ◌-◌, ◌^◌, ◌<◌, ◌≤◌, ◌++◌, [], ℕ, min, length, take, drop, IfOk, is_none, is_some, not, true, None, Some, get_or};
+ghost use Rattle.std.specs.Prelude.{◌≡◌, ◌==◌, ◌+◌, ◌-◌, ◌^◌, ◌<◌, ◌≤◌, ◌++◌, [], ℕ, min, length, take, drop, IfOk, is_none, is_some, not, true, None, Some, get_or};
 ghost use Rattle.std.specs.List.{list_all};
-ghost use Rattle.efi_window.specs.Places.{Places, fresh, ready_of, after_put, after_take};
+ghost use Rattle.efi_window.specs.Places.{Places, fresh, ready_of, after_pass, after_put, after_take};
 
 use crate::bits::words_for;
 use crate::memory::{copied, lengthen};
@@ -134,6 +134,23 @@ impl Window {
         self.span -= count as u64;
         self.origin = front_of(self.origin, self.taken, self.span);
         count
+    }
+
+    /// Moves on by octets that stand next and needn't be kept, as if they had been put and taken.
+    pub fn pass(&mut self, count: u64)
+        requires none { self.old.held ≡ [] }
+        requires bound { self.old.taken + count ≤ 2 ^ 62 }
+        ensures { self.new ≡ after_pass self.old count }
+    {
+        self.taken += count;
+        self.origin += count;
+    }
+
+    /// Whether nothing is kept that wasn't taken.
+    pub fn is_empty(&self) -> bool
+        ensures { result ≡ (length self.now.held == 0) }
+    {
+        self.span == 0
     }
 
     /// How many octets were taken.

@@ -171,6 +171,21 @@ fn cleared(rt: HostRuntime) {
     assert_eq!(rt; (window.taken(), window.ready(), window.cap()), (0, 5, 5));
 }
 
+#[test]
+fn moves_on(rt: HostRuntime) {
+    let mut window = Window::open(rt.alloc(), 10).expect(&rt, "memory for 10");
+    let mut room = [0u8; 8];
+    assert!(rt; window.is_empty());
+    window.pass(7);
+    assert!(rt; window.is_empty());
+    window.put(5, b"abcdefghijklmn");
+    assert!(rt; !window.is_empty());
+    assert_eq!(rt; (window.taken(), window.ready()), (7, 10));
+    assert_eq!(rt; window.take(&mut room), 8);
+    assert_eq!(rt; &room, b"cdefghij");
+    assert_eq!(rt; (window.taken(), window.ready()), (15, 2));
+}
+
 /// Whether the last of 200 places is kept behind a gap.
 fn keeps_last(window: &mut Window) -> bool {
     for step in [

@@ -1,6 +1,6 @@
 //! The stream that a peer's segments make, and the load that takes it in.
-ghost use Rattle.std.specs.Prelude.{◌≡◌, ◌==◌, ◌&&◌, ◌+◌, ◌%◌, ◌^◌, ◌<◌, ◌≤◌, ℕ, List, [], IfOk, OnOk, length, drop, take, min, vec_len};
-ghost use Rattle.tcp_recv.specs.Stream.{Board, empty, front, is_over};
+ghost use Rattle.std.specs.Prelude.{◌≡◌, ◌==◌, ◌&&◌, ◌+◌, ◌%◌, ◌^◌, ◌<◌, ◌≤◌, ℕ, true, false, List, [], IfOk, OnOk, length, drop, take, min, vec_len};
+ghost use Rattle.tcp_recv.specs.Stream.{Board, after_cut, empty, front, is_over};
 ghost use Rattle.tcp_recv.specs.Receiver.{untaken};
 ghost use Rattle.load_core.specs.Met.{HasLoadSoFar, HasNoLoad};
 ghost use Rattle.wire_http.specs.Response.{IsWhole};
@@ -8,7 +8,7 @@ ghost use Rattle.wire_l4.specs.Seen.{segment_seen};
 ghost use Rattle.tap_core.specs.Connections.{after_segment, is_reset};
 ghost use Rattle.tap_core.specs.Ends.{IsFirstEnd};
 ghost use Rattle.tap_core.specs.Following.{Carries, Follows};
-ghost use Rattle.tap_core.specs.Segments.{has_fin, is_cut, resets};
+ghost use Rattle.tap_core.specs.Segments.{cut_of, has_fin, is_cut, resets};
 
 use crate::ends::{End, end_of, end_without};
 use efi_base::{Bytes, NoMemory};
@@ -60,6 +60,9 @@ impl Download {
         if !is_cut(segment) {
             return Ok(reset);
         }
+        if pass_on(&mut self.recv, &mut self.load, segment)? {
+            return Ok(reset);
+        }
         self.recv
             .on_cut(segment.seq, segment.payload, has_fin(segment));
         drain(&mut self.recv, &mut self.room, &mut self.load)?;
@@ -102,6 +105,21 @@ impl Download {
         let Download { load, .. } = self;
         load.into_body()
     }
+}
+
+/// Hands the load the octets of a cut that stand next, from where they are, and answers whether they do.
+fn pass_on(recv: &mut Recv, load: &mut Load, segment: &Tcp<'_>) -> Result<bool, NoMemory>
+    ensures passed { IfOk result (λ passed. passed ≡ true → (most : ℕ) (board : Board) → Carries most board recv.old load.old
+        → Carries most (after_cut recv.old.irs recv.old.cap recv.old.taken board (cut_of (segment_seen segment.now))) recv.new load.new) }
+    ensures all { IfOk result (λ passed. passed ≡ true → untaken recv.new ≡ []) }
+    ensures numbers { (recv.new.irs ≡ recv.old.irs) × (recv.new.cap ≡ recv.old.cap) }
+    ensures stays { IfOk result (λ passed. passed ≡ false → (recv.new ≡ recv.old) × (load.new ≡ load.old)) }
+{
+    if has_fin(segment) || !recv.pass(segment.seq, segment.payload) {
+        return Ok(false);
+    }
+    load.feed(segment.payload)?;
+    Ok(true)
 }
 
 /// Moves all octets that are there without a gap to the load.

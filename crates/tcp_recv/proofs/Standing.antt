@@ -1,10 +1,11 @@
 -- A receiver that holds what is kept of a stream holds it after each cut and each take.
-use Rattle.std.proofs.Common.{◌≡◌, ℕ, zero, suc, ◌+◌, ◌<◌, ◌≤◌, List, [], ◌∷◌, ◌++◌, length, take, drop, Option, Some, None, refl, sym, ap, subst, ◌∙◌, arith}
-use Rattle.std.proofs.lemmas.List.{length-append, length-take, append_assoc, map-append}
-use Rattle.efi_window.specs.Places.{Places, front, held_after, after_put, after_take}
+use Rattle.std.proofs.Common.{◌≡◌, ℕ, zero, suc, ◌+◌, ◌-◌, ◌%◌, ◌^◌, ◌<◌, ◌≤◌, max, Bool, true, false, ◌&&◌, ◌==◌, is_none, nat_le, if◌then◌else◌, List, [], ◌∷◌, ◌++◌, length, take, drop, Option, Some, None, refl, sym, ap, subst, ◌∙◌, arith}
+use Rattle.std.proofs.lemmas.List.{length-append, length-take, append_assoc, map-append, take_all}
+use Rattle.efi_window.specs.Places.{Places, edge_of, front, held_after, after_pass, after_put, after_take, put}
 use Rattle.tcp_recv.specs.Ends.{up_to_end, end_heard}
-use Rattle.tcp_recv.specs.Receiver.{Receiver, Stands, untaken, accepted_of}
-use Rattle.tcp_recv.specs.Stream.{Board, Cut, Place, place_of, after_placed, after_cut}
+use Rattle.tcp_recv.specs.Receiver.{Receiver, Stands, untaken, accepted_of, ends_at, is_next, next_number}
+use Rattle.std.proofs.lemmas.Bool.{eqb-true, leb-true, false≢true}
+use Rattle.tcp_recv.specs.Stream.{ahead, Board, Cut, Place, place_of, after_placed, after_cut}
 use Rattle.tcp_recv.proofs.Boards.{given_slots, front-given, after_placed-kept, after_placed-end, after_placed-behind}
 
 -- the window of a receiver, with this held
@@ -114,3 +115,94 @@ pub stands-take : (board : Board) (given : List ℕ) (r : Receiver) (count : ℕ
 stands-take board given r count w s h e =
     let P : Places → Type 0 = λ v. Stands board (given ++ take count (untaken r)) record { irs = r.irs; room = v.room; cap = v.cap; taken = v.taken; held = v.held; end = r.end } in
     subst P (sym e) (stands-take_of board given r count s h)
+
+-- ---- bytes that stand next are passed on
+
+place-next : (irs accepted seq : ℕ) → seq ≡ (irs + 1 + accepted) % 2 ^ 32 → place_of irs accepted seq ≡ record { place = accepted; skipped = 0 }
+place-next irs accepted seq e =
+    let none : ahead irs accepted seq ≡ 0 = omega (arith, e) in
+    let same : accepted + 0 ≡ accepted = omega arith in
+    rw (none, same) refl
+
+put-none : (bytes : List ℕ) → put zero bytes [] ≡ given_slots bytes
+put-none [] = refl
+put-none (b ∷ bytes) = ap (λ l. Some b ∷ l) (put-none bytes)
+
+held-next : (w : Places) (bytes : List ℕ) → w.held ≡ [] → length bytes ≤ w.cap → w.taken + length bytes ≤ 2 ^ 62 → held_after w w.taken bytes ≡ given_slots bytes
+unfolding held_after
+held-next w bytes none fits bound =
+    let here : w.taken - w.taken ≡ 0 = omega arith in
+    let all : length bytes ≤ edge_of w - max w.taken w.taken = omega (arith, fits, bound) in
+    ap (λ n. put n (take (edge_of w - max w.taken w.taken) (drop n bytes)) w.held) here
+    ∙ ap (λ l. put zero l w.held) (take_all (edge_of w - max w.taken w.taken) bytes all)
+    ∙ ap (put zero bytes) none ∙ put-none bytes
+
+front-slots : (bytes : List ℕ) → front (given_slots bytes) ≡ bytes
+front-slots [] = refl
+front-slots (b ∷ bytes) = ap (λ l. b ∷ l) (front-slots bytes)
+
+drop-slots : (bytes : List ℕ) → drop (length bytes) (given_slots bytes) ≡ []
+drop-slots [] = refl
+drop-slots (b ∷ bytes) = drop-slots bytes
+
+take-whole : (bytes : List ℕ) → take (length bytes) bytes ≡ bytes
+take-whole [] = refl
+take-whole (b ∷ bytes) = ap (λ l. b ∷ l) (take-whole bytes)
+
+abbrev passed-on : Receiver → ℕ → List (Option ℕ) → Receiver
+passed-on r count held = record { irs = r.irs; room = r.room; cap = r.cap; taken = r.taken + count; held = held; end = r.end }
+
+-- as if they had been put into the window and taken out of it
+pub stands-pass : (board : Board) (given : List ℕ) (r : Receiver) (seq : ℕ) (bytes : List ℕ) → Stands board given r → r.held ≡ [] → r.end ≡ None
+    → seq ≡ (r.irs + 1 + r.taken) % 2 ^ 32 → length bytes ≤ r.cap → r.taken + length bytes ≤ 2 ^ 62
+    → Stands (after_cut r.irs r.cap r.taken board (record { seq = seq; bytes = bytes; fin = false })) (given ++ bytes) (passed-on r (length bytes) [])
+stands-pass board given r seq bytes s none endless next fits bound =
+    let cut : Cut = record { seq = seq; bytes = bytes; fin = false } in
+    let w = after_put (window_of r r.held) r.taken bytes in
+    let place = place-next r.irs r.taken seq next in
+    let put-in = stands-put board given r cut r.taken r.taken 0 bytes bytes w r.end s
+    (omega (arith, ap (λ h. length (front h)) none)) (sym (ap (λ (p : Place). p.place) place)) (sym (ap (λ (p : Place). p.skipped) place)) (omega arith)
+    refl (sym (ap (λ e. up_to_end e r.taken bytes) endless)) refl refl in
+    let held : w.held ≡ given_slots bytes = held-next (window_of r r.held) bytes none fits bound in
+    let ready : front w.held ≡ bytes = ap front held ∙ front-slots bytes in
+    let full : Receiver = record { irs = r.irs; room = r.room; cap = r.cap; taken = r.taken; held = w.held; end = r.end } in
+    let taken = stands-take (after_cut r.irs r.cap r.taken board cut) given full (length bytes) (after_take w (length bytes)) put-in (omega (arith, ap length ready)) refl in
+    let moved : take (length bytes) (front w.held) ≡ bytes = ap (take (length bytes)) ready ∙ take-whole bytes in
+    let left : drop (length bytes) w.held ≡ [] = ap (drop (length bytes)) held ∙ drop-slots bytes in
+    subst (λ l. Stands (after_cut r.irs r.cap r.taken board cut) (given ++ l) (passed-on r (length bytes) [])) moved
+    (subst (λ h. Stands (after_cut r.irs r.cap r.taken board cut) (given ++ take (length bytes) (front w.held)) (passed-on r (length bytes) h)) left taken)
+
+and-true : (x y : Bool) → (x && y) ≡ true → (x ≡ true) × (y ≡ true)
+and-true true y h = (refl, h)
+and-true false y h = absurd (false≢true h)
+
+none-held : (held : List (Option ℕ)) → (length held == 0) ≡ true → held ≡ []
+none-held [] h = refl
+none-held (x ∷ held) h = absurd (omega (arith, eqb-true (length (x ∷ held)) 0 h))
+
+none-ended : (end : Option ℕ) → is_none end ≡ true → end ≡ None
+none-ended None h = refl
+none-ended (Some e) h = absurd (false≢true h)
+
+abbrev as-window : Receiver → Places → Receiver
+as-window r w = record { irs = r.irs; room = w.room; cap = w.cap; taken = w.taken; held = w.held; end = r.end }
+
+-- bytes that stand next
+pub stands-next : (board : Board) (given : List ℕ) (r : Receiver) (seq : ℕ) (bytes : List ℕ) (w : Places) → Stands board given r
+    → is_next r seq (length bytes) ≡ true → w ≡ after_pass (window_of r r.held) (length bytes)
+    → Stands (after_cut r.irs r.cap r.taken board (record { seq = seq; bytes = bytes; fin = false })) (given ++ bytes)
+    (as-window r w)
+stands-next board given r seq bytes w s h e =
+    let held = and-true (length r.held == 0) _ h in
+    let end = and-true (is_none r.end) _ held.1 in
+    let number = and-true (seq == next_number r) _ end.1 in
+    let room = and-true (nat_le (length bytes) r.cap) (nat_le (accepted_of r + length bytes) (2 ^ 62)) number.1 in
+    let none : r.held ≡ [] = none-held r.held held.0 in
+    let endless : r.end ≡ None = none-ended r.end end.0 in
+    let accepted : accepted_of r ≡ r.taken = omega (arith, ap (λ h. length (front h)) none) in
+    let next : next_number r ≡ (r.irs + 1 + r.taken) % 2 ^ 32 =
+    ap (λ e. (r.irs + 1 + accepted_of r + (if ends_at (accepted_of r) e then 1 else 0)) % 2 ^ 32) endless ∙ ap (λ n. (r.irs + 1 + n + 0) % 2 ^ 32) accepted
+    ∙ omega arith in
+    let bound : r.taken + length bytes ≤ 2 ^ 62 = omega (arith, leb-true (accepted_of r + length bytes) (2 ^ 62) room.1, accepted) in
+    let P : Places → Type 0 = λ v. Stands (after_cut r.irs r.cap r.taken board (record { seq = seq; bytes = bytes; fin = false })) (given ++ bytes) (as-window r v) in
+    subst P (sym e) (stands-pass board given r seq bytes s none endless (eqb-true seq (next_number r) number.0 ∙ next) (leb-true (length bytes) r.cap room.0) bound)

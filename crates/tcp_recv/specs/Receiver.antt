@@ -1,5 +1,5 @@
 -- A receiver, as others see it.
-use Rattle.std.specs.Prelude.{◌≡◌, ℕ, ◌+◌, ◌%◌, ◌^◌, ◌==◌, Bool, false, if◌then◌else◌, List, [], ◌++◌, length, map, Option, Some, None}
+use Rattle.std.specs.Prelude.{◌≡◌, ℕ, ◌+◌, ◌%◌, ◌^◌, ◌==◌, ◌&&◌, Bool, false, is_none, nat_le, if◌then◌else◌, List, [], ◌++◌, length, map, Option, Some, None}
 use Rattle.tcp_recv.specs.Stream.{Board, front}
 
 -- the peer's first number, the most places that it has memory for, the window, how many bytes were taken, what is
@@ -36,6 +36,11 @@ is_ended r = ends_at (accepted_of r) r.end
 -- the number of the next byte, past the end where that is reached
 abbrev pub next_number : Receiver → ℕ
 next_number r = (r.irs + 1 + accepted_of r + (if is_ended r then 1 else 0)) % 2 ^ 32
+
+-- so many bytes from this number on stand next, and the window takes in all of them: none is kept, and no end is there
+abbrev pub is_next : Receiver → ℕ → ℕ → Bool
+is_next r seq count =
+    length r.held == 0 && (is_none r.end && (seq == next_number r && (nat_le count r.cap && nat_le (accepted_of r + count) (2 ^ 62))))
 
 -- the receiver holds what is kept of the stream, of which these bytes were given
 pub record Stands (board : Board) (given : List ℕ) (r : Receiver) : Type 0 where

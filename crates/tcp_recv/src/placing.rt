@@ -12,7 +12,7 @@ const NUMBERS: u64 = 1 << 32;
 const HALF_OF_NUMBERS: u64 = 1 << 31;
 
 /// The first place that is never kept.
-const END_OF_PLACES: u64 = 1 << 62;
+pub const END_OF_PLACES: u64 = 1 << 62;
 
 /// Where a segment's first octet that has a place stands, and how many octets in front of it have none.
 #[derive(Clone, Copy)]

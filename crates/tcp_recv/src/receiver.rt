@@ -1,9 +1,9 @@
 //! The receiver.
-ghost use Rattle.std.specs.Prelude.{◌≡◌, ◌+◌, ◌-◌, ◌^◌, ◌≤◌, ◌++◌, ℕ, List, min, length, take, drop, IfOk};
-ghost use Rattle.tcp_recv.specs.Receiver.{Receiver, fresh, untaken, accepted_of, is_ended, next_number, Stands};
+ghost use Rattle.std.specs.Prelude.{◌≡◌, ◌+◌, ◌-◌, ◌^◌, ◌≤◌, ◌++◌, ℕ, true, false, [], List, min, length, take, drop, IfOk};
+ghost use Rattle.tcp_recv.specs.Receiver.{Receiver, fresh, untaken, accepted_of, is_ended, is_next, next_number, Stands};
 ghost use Rattle.tcp_recv.specs.Stream.{Board, Cut, after_cut, front};
 
-use crate::placing::{before_end, end_with, spot_of};
+use crate::placing::{END_OF_PLACES, before_end, end_with, spot_of};
 use efi_base::NoMemory;
 use efi_window::Window;
 use std::alloc::Global;
@@ -78,6 +78,36 @@ impl Recv {
         self.window
             .put(spot.place, before_end(bytes, spot.place, self.end));
         self.end = end_with(&self.window, self.end, fin, spot.place + bytes.len() as u64);
+    }
+
+    /// Passes on a segment's octets that stand next, without FIN, where none is kept and the window takes in all of them: as if
+    /// they had been taken in and moved out at once, but they stay where they are. Answers false, and does nothing, elsewhere.
+    pub fn pass(&mut self, seq: u32, bytes: &[u8]) -> bool
+        ensures exact { result ≡ is_next self.old seq (length bytes.now) }
+        ensures passed { result ≡ true → self.new ≡ record self.old { taken = self.old.taken + length bytes.now; held = [] } }
+        ensures stays { result ≡ false → self.new ≡ self.old }
+        ensures stands { result ≡ true → (board : Board) → (given : List ℕ) → Stands board given self.old
+            → Stands (after_cut self.old.irs self.old.cap self.old.taken board (record { seq = seq; bytes = bytes.now; fin = false }))
+            (given ++ bytes.now) self.new }
+        ensures bound { result ≡ true → self.new.taken ≤ 2 ^ 62 }
+    {
+        let count = bytes.len() as u64;
+        if !self.is_next(seq, count) {
+            return false;
+        }
+        self.window.pass(count);
+        true
+    }
+
+    /// Whether so many octets from this number on stand next, and the window takes in all of them and holds none.
+    fn is_next(&self, seq: u32, count: u64) -> bool
+        ensures { result ≡ is_next self.now seq count }
+    {
+        self.window.is_empty()
+            && self.end.is_none()
+            && seq == self.rcv_nxt()
+            && count <= self.window.cap() as u64
+            && self.accepted() + count <= END_OF_PLACES
     }
 
     /// Moves out as many octets as are ready and fit.

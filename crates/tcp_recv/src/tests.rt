@@ -100,3 +100,41 @@ fn windows_of_two_lengths(rt: HostRuntime) {
     assert_eq!(rt; accepted_of(&rt, rt.alloc(), 1_048_560), 70_001);
     assert_eq!(rt; accepted_of(&rt, rt.alloc(), 65_535), 65_535);
 }
+
+/// A segment's number and octets, whether they are passed on, and the accepted length behind it.
+type Next<'a> = (u32, &'a [u8], bool, u64);
+
+/// Passes on the octets of segments, and compares what the receiver says of each.
+fn passes(rt: &impl Abort, recv: &mut Recv, rows: &[Next]) {
+    for (seq, octets, passed, accepted) in rows {
+        assert_eq!(rt; recv.pass(*seq, octets), *passed, "at {seq}");
+        assert_eq!(rt; recv.accepted(), *accepted, "at {seq}");
+    }
+}
+
+#[test]
+fn passes_on_what_stands_next(rt: HostRuntime) {
+    let mut recv = Recv::with_cap(rt.alloc(), IRS, 8).expect(&rt, "memory for 8");
+    let rows: [Next; 7] = [
+        (4_294_967_292, b"bc", false, 0),
+        (4_294_967_291, b"abc", true, 3),
+        (4_294_967_291, b"abc", false, 3),
+        (4_294_967_294, b"defghijkl", false, 3),
+        (4_294_967_294, b"defg", true, 7),
+        (2, b"", true, 7),
+        (2, b"hijklmno", true, 15),
+    ];
+    passes(&rt, &mut recv, &rows);
+    hears(&rt, &mut recv, &[(12, b"r", false, 15, false)]);
+    passes(&rt, &mut recv, &[(10, b"p", false, 15)]);
+    hears(&rt, &mut recv, &[(10, b"pq", false, 18, false)]);
+    passes(&rt, &mut recv, &[(13, b"s", false, 18)]);
+    gives(&rt, &mut recv, b"pqr");
+    passes(&rt, &mut recv, &[(13, b"s", true, 19)]);
+    hears(&rt, &mut recv, &[(14, b"", true, 19, true)]);
+    passes(
+        &rt,
+        &mut recv,
+        &[(14, b"t", false, 19), (14, b"", false, 19)],
+    );
+}

@@ -19,8 +19,9 @@ Makes a capture of N megabytes (200 by default) for each kind of download, or fo
 
 and lets each program read it, `cat` to a file, and the others (`tcpflow` and `tcpick` where they are installed) with the
 stream or image to a file. `hold` is Python reading its whole input into memory and then writing it, and nothing else: what
-any program spends that may write nothing before its input's end. Times are the least of three (`--tries`). What `extract` writes is compared with the image. The
-memory is the most that was resident at once, and is never told as less than this script's own, some 20 MB.
+any program spends that may write nothing before its input's end. Times are the least of three (`--tries`), of which each comes in
+turn with the other programs'. What `extract` writes is compared with the image. The memory is the most that was resident at once,
+and is never told as less than this script's own, some 20 MB.
 
 PROGRAM is efiboot as it was built (crates/efiboot/out/efiboot by default, which `./efiboot` builds first where it has to).
 Files stand in a temporary folder and are deleted. Needs Python's standard library alone.
@@ -265,8 +266,8 @@ def measure(folder, program, kind, length, tries):
     capture, output = os.path.join(folder, "capture"), os.path.join(folder, "output")
     write_capture(capture, length, kind)
     found = {}
-    for name, (words, stdin, stdout) in readers(program, capture, output).items():
-        for _ in range(tries):
+    for _ in range(tries):
+        for name, (words, stdin, stdout) in readers(program, capture, output).items():
             with tempfile.TemporaryDirectory(dir=folder) as own:
                 status, took, memory = run(words, own, stdin, stdout)
             if name == "efiboot" and (status != 0 or not is_image(output, length)):

@@ -1,7 +1,7 @@
 //! The stream that a peer's segments make, and the load that takes it in.
-ghost use Rattle.std.specs.Prelude.{◌≡◌, ◌==◌, ◌&&◌, ◌+◌, ◌%◌, ◌^◌, ◌<◌, ◌≤◌, ℕ, true, false, List, [], IfOk, OnOk, length, drop, take, min, vec_len};
+ghost use Rattle.std.specs.Prelude.{◌≡◌, ◌==◌, ◌&&◌, ◌+◌, ◌%◌, ◌^◌, ◌<◌, ◌≤◌, ℕ, true, false, not, List, [], IfOk, OnOk, length, drop, take, min, vec_len};
 ghost use Rattle.tcp_recv.specs.Stream.{Board, after_cut, empty, front, is_over};
-ghost use Rattle.tcp_recv.specs.Receiver.{untaken};
+ghost use Rattle.tcp_recv.specs.Receiver.{is_next, untaken};
 ghost use Rattle.load_core.specs.Met.{HasLoadSoFar, HasNoLoad};
 ghost use Rattle.wire_http.specs.Response.{IsWhole};
 ghost use Rattle.wire_l4.specs.Seen.{segment_seen};
@@ -109,6 +109,8 @@ impl Download {
 
 /// Hands the load the octets of a cut that stand next, from where they are, and answers whether they do.
 fn pass_on(recv: &mut Recv, load: &mut Load, segment: &Tcp<'_>) -> Result<bool, NoMemory>
+    ensures exact { IfOk result (λ passed. passed ≡ (not (has_fin (segment_seen segment.now))
+        && is_next recv.old (segment_seen segment.now).seq (length (segment_seen segment.now).payload))) }
     ensures passed { IfOk result (λ passed. passed ≡ true → (most : ℕ) (board : Board) → Carries most board recv.old load.old
         → Carries most (after_cut recv.old.irs recv.old.cap recv.old.taken board (cut_of (segment_seen segment.now))) recv.new load.new) }
     ensures all { IfOk result (λ passed. passed ≡ true → untaken recv.new ≡ []) }

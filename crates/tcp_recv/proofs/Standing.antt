@@ -1,10 +1,10 @@
 -- A receiver that holds what is kept of a stream holds it after each cut and each take.
 use Rattle.std.proofs.Common.{◌≡◌, ℕ, zero, suc, ◌+◌, ◌-◌, ◌%◌, ◌^◌, ◌<◌, ◌≤◌, max, Bool, true, false, ◌&&◌, ◌==◌, is_none, nat_le, if◌then◌else◌, List, [], ◌∷◌, ◌++◌, length, take, drop, Option, Some, None, refl, sym, ap, subst, ◌∙◌, arith}
-use Rattle.std.proofs.lemmas.List.{length-append, length-take, append_assoc, map-append, take_all}
+use Rattle.std.proofs.lemmas.List.{length-append, length-map, length-take, append-nil, append_assoc, drop_all, map-append, take_all}
 use Rattle.efi_window.specs.Places.{Places, edge_of, front, held_after, after_pass, after_put, after_take, put}
 use Rattle.tcp_recv.specs.Ends.{up_to_end, end_heard}
 use Rattle.tcp_recv.specs.Receiver.{Receiver, Stands, untaken, accepted_of, ends_at, is_next, next_number}
-use Rattle.std.proofs.lemmas.Bool.{eqb-true, leb-true, false≢true}
+use Rattle.std.proofs.lemmas.Bool.{and_parts, eqb-true, leb-true, false≢true}
 use Rattle.tcp_recv.specs.Stream.{ahead, Board, Cut, Place, place_of, after_placed, after_cut}
 use Rattle.tcp_recv.proofs.Boards.{given_slots, front-given, after_placed-kept, after_placed-end, after_placed-behind}
 
@@ -137,17 +137,11 @@ held-next w bytes none fits bound =
     ∙ ap (λ l. put zero l w.held) (take_all (edge_of w - max w.taken w.taken) bytes all)
     ∙ ap (put zero bytes) none ∙ put-none bytes
 
+length-given : (bytes : List ℕ) → length (given_slots bytes) ≡ length bytes
+length-given bytes = length-map bytes (λ b. Some b)
+
 front-slots : (bytes : List ℕ) → front (given_slots bytes) ≡ bytes
-front-slots [] = refl
-front-slots (b ∷ bytes) = ap (λ l. b ∷ l) (front-slots bytes)
-
-drop-slots : (bytes : List ℕ) → drop (length bytes) (given_slots bytes) ≡ []
-drop-slots [] = refl
-drop-slots (b ∷ bytes) = drop-slots bytes
-
-take-whole : (bytes : List ℕ) → take (length bytes) bytes ≡ bytes
-take-whole [] = refl
-take-whole (b ∷ bytes) = ap (λ l. b ∷ l) (take-whole bytes)
+front-slots bytes = ap front (sym (append-nil (given_slots bytes))) ∙ front-given bytes [] ∙ append-nil bytes
 
 abbrev passed-on : Receiver → ℕ → List (Option ℕ) → Receiver
 passed-on r count held = record { irs = r.irs; room = r.room; cap = r.cap; taken = r.taken + count; held = held; end = r.end }
@@ -167,14 +161,10 @@ stands-pass board given r seq bytes s none endless next fits bound =
     let ready : front w.held ≡ bytes = ap front held ∙ front-slots bytes in
     let full : Receiver = record { irs = r.irs; room = r.room; cap = r.cap; taken = r.taken; held = w.held; end = r.end } in
     let taken = stands-take (after_cut r.irs r.cap r.taken board cut) given full (length bytes) (after_take w (length bytes)) put-in (omega (arith, ap length ready)) refl in
-    let moved : take (length bytes) (front w.held) ≡ bytes = ap (take (length bytes)) ready ∙ take-whole bytes in
-    let left : drop (length bytes) w.held ≡ [] = ap (drop (length bytes)) held ∙ drop-slots bytes in
+    let moved : take (length bytes) (front w.held) ≡ bytes = ap (take (length bytes)) ready ∙ take_all (length bytes) bytes (omega arith) in
+    let left : drop (length bytes) w.held ≡ [] = ap (drop (length bytes)) held ∙ drop_all (length bytes) (given_slots bytes) (omega (arith, length-given bytes)) in
     subst (λ l. Stands (after_cut r.irs r.cap r.taken board cut) (given ++ l) (passed-on r (length bytes) [])) moved
     (subst (λ h. Stands (after_cut r.irs r.cap r.taken board cut) (given ++ take (length bytes) (front w.held)) (passed-on r (length bytes) h)) left taken)
-
-and-true : (x y : Bool) → (x && y) ≡ true → (x ≡ true) × (y ≡ true)
-and-true true y h = (refl, h)
-and-true false y h = absurd (false≢true h)
 
 none-held : (held : List (Option ℕ)) → (length held == 0) ≡ true → held ≡ []
 none-held [] h = refl
@@ -193,10 +183,10 @@ pub stands-next : (board : Board) (given : List ℕ) (r : Receiver) (seq : ℕ) 
     → Stands (after_cut r.irs r.cap r.taken board (record { seq = seq; bytes = bytes; fin = false })) (given ++ bytes)
     (as-window r w)
 stands-next board given r seq bytes w s h e =
-    let held = and-true (length r.held == 0) _ h in
-    let end = and-true (is_none r.end) _ held.1 in
-    let number = and-true (seq == next_number r) _ end.1 in
-    let room = and-true (nat_le (length bytes) r.cap) (nat_le (accepted_of r + length bytes) (2 ^ 62)) number.1 in
+    let held = and_parts (length r.held == 0) _ h in
+    let end = and_parts (is_none r.end) _ held.1 in
+    let number = and_parts (seq == next_number r) _ end.1 in
+    let room = and_parts (nat_le (length bytes) r.cap) (nat_le (accepted_of r + length bytes) (2 ^ 62)) number.1 in
     let none : r.held ≡ [] = none-held r.held held.0 in
     let endless : r.end ≡ None = none-ended r.end end.0 in
     let accepted : accepted_of r ≡ r.taken = omega (arith, ap (λ h. length (front h)) none) in

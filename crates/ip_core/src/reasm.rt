@@ -104,13 +104,6 @@ impl Reasm {
         are_same(&self.pools, &other.pools)
     }
 
-    /// How many pools were open at the last tick or packet.
-    pub fn open_count(&self) -> usize
-        ensures { result ≡ length self.now }
-    {
-        self.pools.len()
-    }
-
     /// Closes the pools that are over.
     pub fn tick(&mut self, now: Tick)
         ensures { self.new ≡ open_at now.0 self.old }

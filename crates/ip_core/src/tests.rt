@@ -98,7 +98,6 @@ fn open_pools(rt: &impl Abort, reasm: &mut Reasm, count: u16) {
 fn sixteen_pools(rt: HostRuntime) {
     let mut reasm = Reasm::new(rt.alloc()).expect(&rt, "memory for 16 pools");
     open_pools(&rt, &mut reasm, 17);
-    assert_eq!(rt; reasm.open_count(), 16);
     let rows: [(u64, u16, u16, bool); 6] = [
         (0, 16, 8, true),
         (29_999, 16, 8, true),

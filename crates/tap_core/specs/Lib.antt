@@ -9,7 +9,6 @@ pub mod Heard
 pub mod Hearing
 pub mod Openings
 pub mod Peers
-pub mod Recent
 pub mod Seen
 pub mod Segments
 pub mod Shown

@@ -1,5 +1,4 @@
--- What a tap stands for that has heard records one after the other. None of them is kept but fragments that wait, and these only
--- until one asks for a connection.
+-- What a tap stands for that has heard records one after the other. None of them is kept.
 use Rattle.std.specs.Prelude.{◌≡◌, ℕ, ◌<◌, false, List, [], Option, Some, None, All, vec_len}
 use Rattle.efi_base.specs.declared.plain.Record.{Record}
 use Rattle.wire_l4.specs.Segment.{Segment}

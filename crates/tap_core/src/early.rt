@@ -1,35 +1,31 @@
-//! What is kept of the records in front of the segment that asks for a connection. Which station hears their fragments shows
-//! only with that segment, so the pools are kept that they left open to their senders, and to all others. Where that is too
-//! many a fragment waits, and all behind it. How pools are kept apart isn't here.
-ghost use Rattle.std.specs.Prelude.{◌≡◌, ◌<◌, ◌∷◌, ◌++◌, [], true, false, max, List, ℕ, IfOk, OnOk, ◌≤◌, ◌+◌, vec_len};
-ghost use Rattle.std.specs.VecDeque.{deque_len};
+//! What is kept of the records up to the one that asks for the connection: the pools that their fragments left open. Which station
+//! heard which of them shows only with that record, so whatever pools it may have are kept. How a view's pools change isn't here.
+ghost use Rattle.std.specs.Prelude.{◌≡◌, ◌<◌, ◌∷◌, ◌++◌, [], false, length, map, List, ℕ, IfOk, OnOk};
+ghost use Rattle.std.specs.Str.{bytes_eq};
 ghost use Rattle.efi_base.specs.declared.plain.Record.{Record};
 ghost use Rattle.ip_core.specs.Bytes.{bytes_kept};
 ghost use Rattle.ip_core.specs.Datagrams.{after_event};
 ghost use Rattle.ip_core.specs.Frames.{event_of};
 ghost use Rattle.ip_core.specs.Pools.{open_at};
-ghost use Rattle.tap_core.specs.Early.{AreNeeded, ComesFrom, IsSettled, Keeps, KeepsFragments, Left, left_by, most_views};
-ghost use Rattle.tap_core.specs.Frames.{heard_packet};
-ghost use Rattle.tap_core.specs.Recent.{recent_at};
+ghost use Rattle.tap_core.specs.Early.{AreAlike, AreLeft, KeepsFragments, Left, drops, has_view, left_by, view_after, view_at};
+ghost use Rattle.tap_core.specs.Frames.{heard_packet, right_packet};
 
-use crate::fragments::Fragments;
-use crate::packets::holds_fragment;
-use crate::views::{Views, most_views};
+use crate::packets::{holds_fragment, read_right};
+use crate::views::{View, find_view, give_up, has_view, hear_each, hear_packet, tick_each};
 use efi_base::{Mac, NoMemory, Record, Tick};
-use ip_core::{LIFETIME, Reasm};
+use ip_core::Reasm;
 use std::alloc::Global;
+use wire_link::read_ether;
 
-/// How many octets of fragments it costs, for each pool that is open to the others, to compare all views with them: it takes time.
-const PRICE: usize = 512;
-
-/// The pools that fragments left open to each station, and fragments that wait to be heard. The latest tick is the greatest of a
-/// fragment since no pool could be open. `budget` is how many octets of memory fragments took, less what was paid for comparing.
+/// The pools that the records so far left open, whichever station is the one that is watched. A station that sent some of the
+/// fragments didn't hear those, and has a view, with its own pools, as long as they may differ; all others have the same. A view
+/// takes memory for 16 pools, some 1.2 MB, of which its open pools use what they reach to and an eighth more. `enough` is how many
+/// there may be before those are given up whose pools are the others'.
 #[derive(Drop)]
 pub struct Early {
-    views: Views,
-    pub waiting: Fragments,
-    latest: Tick,
-    budget: usize,
+    others: Reasm,
+    pub apart: Vec<View>,
+    enough: usize,
 }
 
 impl Early {
@@ -38,21 +34,21 @@ impl Early {
         ensures { IfOk result (KeepsFragments []) }
     {
         Ok(Early {
-            views: Views::new(alloc)?,
-            waiting: Fragments::new(alloc),
-            latest: Tick(0),
-            budget: 0,
+            others: Reasm::new(alloc)?,
+            apart: Vec::new(alloc),
+            enough: 1,
         })
     }
 
-    /// Hears a record.
-    pub fn hear(&mut self, alloc: Global, record: Record) -> Result<(), NoMemory>
-        ensures { (records : List Record) → KeepsFragments records self.old → OnOk result (KeepsFragments (records ++ «record» ∷ []) self.new) }
+    /// Each station hears a record that it didn't send, and its tick passes for all.
+    pub fn hear(&mut self, alloc: Global, record: &Record) -> Result<(), NoMemory>
+        ensures { (records : List Record) → KeepsFragments records self.old → OnOk result (KeepsFragments (records ++ «record».now ∷ []) self.new) }
     {
-        self.pass(record.tick);
         if holds_fragment(record.frame.as_slice()) {
-            self.keep(record)?;
-            self.settle(alloc)?;
+            self.know_sender(alloc, record)?;
+            self.take_in(record);
+        } else {
+            self.tick(record.tick);
         }
         Ok(())
     }
@@ -61,106 +57,92 @@ impl Early {
     pub fn into_pools(self, station: Mac) -> Reasm
         ensures { (records : List Record) → KeepsFragments records self → result ≡ left_by records (heard_packet station.0) }
     {
-        let Early { views, waiting, .. } = self;
-        let mut pools = views.into_pools(station);
-        waiting.hear(station, &mut pools);
-        pools
+        let Early {
+            others,
+            mut apart,
+            ..
+        } = self;
+        match find_view(&apart, station) {
+            Some(place) => apart.remove(place).pools,
+            None => others,
+        }
     }
 
-    /// A tick passes. Where each pool is over that a fragment can have opened, none waits any longer, and no station needs a view.
-    fn pass(&mut self, now: Tick)
-        ensures keeps { (left : Left) → Keeps left self.old → Keeps (λ counts. open_at now.0 (left counts)) self.new }
-        ensures comes { (fragments : List Record) → ComesFrom fragments self.old → ComesFrom (recent_at now.0 fragments) self.new }
-        ensures needed { (fragments : List Record) → ComesFrom fragments self.old → AreNeeded fragments self.old.waiting
-            → AreNeeded (recent_at now.0 fragments) self.new.waiting }
+    /// A tick passes.
+    fn tick(&mut self, now: Tick)
+        ensures enough { self.new.enough ≡ self.old.enough }
+        ensures apart { self.new.apart.items ≡ map (view_at now.0) self.old.apart.items }
+        ensures left { (left : Left) → AreLeft left self.old.others self.old.apart.items
+            → AreLeft (λ counts. open_at now.0 (left counts)) self.new.others self.new.apart.items }
     {
-        if now.0.saturating_sub(self.latest.0) < LIFETIME {
-            self.waiting.pass(now);
+        self.others.tick(now);
+        tick_each(&mut self.apart, now);
+    }
+
+    /// Each station hears a fragment that it didn't send. Its sender has to have a view, or the others to drop it.
+    fn take_in(&mut self, record: &Record)
+        requires { AreAlike «record».now self.old.others self.old.apart.items }
+        ensures enough { self.new.enough ≡ self.old.enough }
+        ensures apart { self.new.apart.items ≡ map (view_after «record».now) self.old.apart.items }
+        ensures left { (left : Left) → AreLeft left self.old.others self.old.apart.items
+            → AreLeft (λ counts. after_event bytes_kept (left counts) (event_of counts «record».now)) self.new.others self.new.apart.items }
+    {
+        let packet = read_right(record.frame.as_slice());
+        hear_packet(&mut self.others, record.tick, packet);
+        hear_each(&mut self.apart, record);
+    }
+
+    /// Gives the sender of a fragment a view, if it has none. Where the others drop the fragment they are left the same as the
+    /// sender, which needs none then. (A frame too short for an Ethernet header has no sender, and holds no fragment.)
+    fn know_sender(&mut self, alloc: Global, record: &Record) -> Result<(), NoMemory>
+        ensures keeps { (records : List Record) → KeepsFragments records self.old → OnOk result (KeepsFragments records self.new) }
+        ensures alike { OnOk result (AreAlike «record».now self.new.others self.new.apart.items) }
+    {
+        let Ok(ether) = read_ether(record.frame.as_slice()) else {
+            return Ok(());
+        };
+        if has_view(&self.apart, ether.src) {
+            return Ok(());
+        }
+        if self.drops(record) {
+            return Ok(());
+        }
+        self.open(alloc, ether.src)
+    }
+
+    /// Whether the others drop a fragment, at its tick.
+    fn drops(&self, record: &Record) -> bool
+        ensures { result ≡ drops «record».now self.now.others }
+    {
+        match read_right(record.frame.as_slice()) {
+            Some(packet) => self.others.drops(record.tick, &packet),
+            None => false,
+        }
+    }
+
+    /// One view more, for a station that has none. Others' may be given up for it.
+    fn open(&mut self, alloc: Global, station: Mac) -> Result<(), NoMemory>
+        ensures keeps { (records : List Record) → has_view station.0 self.old.apart.items ≡ false → KeepsFragments records self.old
+            → OnOk result (KeepsFragments records self.new) }
+        ensures known { OnOk result ((other : List ℕ) → has_view other self.new.apart.items ≡ false → bytes_eq station.0 other ≡ false) }
+    {
+        self.make_room();
+        let pools = self.others.try_clone(alloc)?;
+        self.apart.push(View { station, pools })?;
+        Ok(())
+    }
+
+    /// Where there are enough views, gives up those whose pools are the others'. To compare takes time, so it is done again once
+    /// there are twice as many as were left.
+    fn make_room(&mut self)
+        ensures keeps { (records : List Record) → KeepsFragments records self.old → KeepsFragments records self.new }
+        ensures fewer { (station : List ℕ) → has_view station self.old.apart.items ≡ false → has_view station self.new.apart.items ≡ false }
+        ensures room { length self.new.apart.items < self.new.enough }
+    {
+        if self.apart.len() < self.enough {
             return;
         }
-        self.views.close(now);
-        self.waiting.forget();
-        self.latest = Tick(0);
-    }
-
-    /// One fragment more waits.
-    fn keep(&mut self, record: Record) -> Result<(), NoMemory>
-        ensures keeps { (left : Left) → Keeps left self.old
-            → OnOk result (Keeps (λ counts. after_event bytes_kept (left counts) (event_of counts «record»)) self.new) }
-        ensures comes { (fragments : List Record) → ComesFrom fragments self.old → OnOk result (ComesFrom (fragments ++ «record» ∷ []) self.new) }
-    {
-        let tick = record.tick;
-        let waited = self.waiting.octets();
-        self.waiting.keep(record)?;
-        let more = self.waiting.octets().saturating_sub(waited);
-        self.budget = self.budget.saturating_add(more);
-        self.latest = Tick(self.latest.0.max(tick.0));
-        Ok(())
-    }
-
-    /// Hears those that wait, the first one first, as far as all can be told apart to which they leave different pools.
-    fn settle(&mut self, alloc: Global) -> Result<(), NoMemory>
-        ensures keeps { (left : Left) → Keeps left self.old → OnOk result (Keeps left self.new) }
-        ensures comes { (fragments : List Record) → ComesFrom fragments self.old → OnOk result (ComesFrom fragments self.new) }
-        ensures settled { OnOk result (IsSettled self.new) }
-    {
-        while self.go_on(alloc)? {}
-        Ok(())
-    }
-
-    /// Hears the first that waits, or else takes views from stations that need none. Answers false where no more can be heard.
-    fn go_on(&mut self, alloc: Global) -> Result<bool, NoMemory>
-        ensures keeps { (left : Left) → Keeps left self.old → OnOk result (Keeps left self.new) }
-        ensures comes { (fragments : List Record) → ComesFrom fragments self.old → OnOk result (ComesFrom fragments self.new) }
-        ensures fewer { IfOk result (λ more. more ≡ true
-            → deque_len self.new.waiting.kept + self.new.budget < deque_len self.old.waiting.kept + self.old.budget) }
-        ensures settled { IfOk result (λ more. more ≡ false → IsSettled self.new) }
-    {
-        Ok(self.hear_next(alloc)? || self.free_views())
-    }
-
-    /// Hears the first that waits, where all can be told apart to which it leaves different pools, and answers whether it was heard.
-    fn hear_next(&mut self, alloc: Global) -> Result<bool, NoMemory>
-        ensures keeps { (left : Left) → Keeps left self.old → OnOk result (Keeps left self.new) }
-        ensures comes { (fragments : List Record) → ComesFrom fragments self.old → OnOk result (ComesFrom fragments self.new) }
-        ensures budget { OnOk result (self.new.budget ≡ self.old.budget) }
-        ensures few { OnOk result (vec_len self.new.views.apart ≤ max (vec_len self.old.views.apart) (most_views self.old.waiting.octets)) }
-        ensures fewer { IfOk result (λ heard. heard ≡ true → deque_len self.new.waiting.kept < deque_len self.old.waiting.kept) }
-        ensures same { IfOk result (λ heard. heard ≡ false → deque_len self.new.waiting.kept ≡ deque_len self.old.waiting.kept) }
-        ensures settled { IfOk result (λ heard. heard ≡ false → IsSettled self.new) }
-    {
-        let most = most_views(self.waiting.octets());
-        let Some(fragment) = self.waiting.kept.front() else {
-            return Ok(false);
-        };
-        if !self.views.make_room(alloc, fragment, most)? {
-            return Ok(false);
-        }
-        self.views.hear(fragment);
-        self.waiting.leave();
-        self.views.shrink(most);
-        Ok(true)
-    }
-
-    /// Takes views from stations to which the same is left as to the others at the tick of the first fragment that waits.
-    /// Answers whether a view is spare then; false where the budget doesn't pay for it.
-    fn free_views(&mut self) -> bool
-        ensures keeps { (left : Left) → Keeps left self.old → Keeps left self.new }
-        ensures comes { (fragments : List Record) → ComesFrom fragments self.old → ComesFrom fragments self.new }
-        ensures waiting { self.new.waiting ≡ self.old.waiting }
-        ensures cheaper { result ≡ true → self.new.budget < self.old.budget }
-        ensures settled { IsSettled self.old → result ≡ false → IsSettled self.new }
-    {
-        let Some(first) = self.waiting.kept.front() else {
-            return false;
-        };
-        let pools = self.views.others.open_count().max(1);
-        let price = PRICE.saturating_mul(pools);
-        if self.budget < price {
-            return false;
-        }
-        self.budget -= price;
-        self.views.tick(first.tick());
-        self.views.release()
+        give_up(&mut self.apart, &self.others);
+        self.enough = self.apart.len().saturating_mul(2).saturating_add(1);
     }
 }

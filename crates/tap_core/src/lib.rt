@@ -11,8 +11,6 @@ mod early;
 mod ends;
 // what a record adds to a download
 mod follow;
-// fragments that wait to be heard
-mod fragments;
 // what the station hears from its peer
 mod heard;
 // what holds of the definitions
@@ -35,7 +33,7 @@ mod tapping;
 mod telling;
 #[cfg(test)]
 mod tests;
-// the pools that fragments left open to each station
+// the pools that are left open to single stations
 mod views;
 
 pub use ends::End;

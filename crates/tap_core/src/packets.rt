@@ -1,10 +1,7 @@
 //! The IPv4 packets in Ethernet frames, read through the layers below (RFC 894). What datagrams they make isn't here.
 ghost use Rattle.std.specs.Prelude.{◌≡◌, option_map};
-ghost use Rattle.wire_ip4.specs.Packet.{packet_of, unverified_packet_of};
 ghost use Rattle.wire_ip4.specs.Seen.{packet_seen};
-ghost use Rattle.ip_core.specs.Frames.{packet_in_frame};
-ghost use Rattle.tap_core.specs.Early.{packets_of};
-ghost use Rattle.tap_core.specs.Frames.{any_packet, heard_packet, holds_fragment, is_sent};
+ghost use Rattle.tap_core.specs.Frames.{any_packet, heard_packet, holds_fragment, is_sent, right_packet};
 
 use efi_base::Mac;
 use wire_ip4::{Ip, read_ip, read_ip_unverified};
@@ -42,8 +39,8 @@ pub fn read_heard(station: Mac, frame: &[u8]) -> Option<Ip<'_>>
 }
 
 /// The packet of a frame, with a right checksum of its header, whoever sent it.
-fn read_right(frame: &[u8]) -> Option<Ip<'_>>
-    ensures { option_map packet_seen result ≡ packet_in_frame packet_of frame.now }
+pub fn read_right(frame: &[u8]) -> Option<Ip<'_>>
+    ensures { option_map packet_seen result ≡ right_packet frame.now }
 {
     let Ok(ether) = read_ether(frame) else {
         return None;
@@ -54,16 +51,6 @@ fn read_right(frame: &[u8]) -> Option<Ip<'_>>
     match read_ip(ether.payload) {
         Ok(packet) => Some(packet),
         Err(_) => None,
-    }
-}
-
-/// The packet of a frame, with a right checksum of its header, that a station heard, or one that sent none of the frames.
-pub fn read_packet(station: Option<Mac>, frame: &[u8]) -> Option<Ip<'_>>
-    ensures { option_map packet_seen result ≡ packets_of station frame.now }
-{
-    match station {
-        Some(station) => read_heard(station, frame),
-        None => read_right(frame),
     }
 }
 

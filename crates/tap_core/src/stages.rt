@@ -63,7 +63,7 @@ pub fn next_stage(alloc: Global, most: u32, stage: Stage, record: Record) -> Res
     ensures broken { stage ≡ Broken → IsErr result }
 {
     match stage {
-        Stage::Opening(waiting) => hear_first(alloc, waiting, record),
+        Stage::Opening(waiting) => hear_first(alloc, waiting, &record),
         Stage::Answering(listener) => hear_second(alloc, most, listener, &record),
         Stage::Following(listener, download) => hear_more(listener, download, &record),
         Stage::Ended(seen) => Ok(Stage::Ended(seen)),
@@ -72,16 +72,16 @@ pub fn next_stage(alloc: Global, most: u32, stage: Stage, record: Record) -> Res
 }
 
 /// A record before which none asks for a connection.
-fn hear_first(alloc: Global, waiting: Waiting, record: Record) -> Result<Stage, NoMemory>
-    ensures { (most : ℕ) (records : List Record) → IsWaiting records waiting → IfOk result (StandsFor most (records ++ «record» ∷ [])) }
+fn hear_first(alloc: Global, waiting: Waiting, record: &Record) -> Result<Stage, NoMemory>
+    ensures { (most : ℕ) (records : List Record) → IsWaiting records waiting → IfOk result (StandsFor most (records ++ «record».now ∷ [])) }
 {
     let Waiting {
         mut reasm,
         mut early,
         mut tally,
     } = waiting;
-    let asked = asked_at(&mut reasm, &record);
-    tally.count(&record)?;
+    let asked = asked_at(&mut reasm, record);
+    tally.count(record)?;
     early.hear(alloc, record)?;
     let Some(syn) = asked else {
         return Ok(Stage::Opening(Waiting {

@@ -87,7 +87,7 @@ fn from_hex(alloc: Global, text: &str) -> Result<Bytes, Fail> {
     Ok(Bytes::from_vec(octets))
 }
 
-/// The tap hears a frame at a tick.
+/// The record of a frame at a tick.
 fn record_of(alloc: Global, tick: u32, frame: &str) -> Result<Record, Fail> {
     let frame = from_hex(alloc, frame)?;
     Ok(Record {
@@ -96,6 +96,7 @@ fn record_of(alloc: Global, tick: u32, frame: &str) -> Result<Record, Fail> {
     })
 }
 
+/// The tap hears a frame at a tick.
 fn hear(rt: &impl Abort, alloc: Global, tap: &mut Tap, tick: u32, frame: &str) -> Result<(), Fail> {
     tap.hear(record_of(alloc, tick, frame)?)
         .expect(rt, "memory");
@@ -311,56 +312,44 @@ fn hears_fragments_in_front(rt: HostRuntime) -> Result<(), Fail> {
     Ok(())
 }
 
-/// Frames that come in turns in front of the segment that asks for the connection, and how it ends where the answer's last
-/// fragment comes behind it.
-const TURNS: [(&str, &[&str], End); 5] = [
+/// Frames that come in turns in front of the segment that asks for the connection, how many views there are then, and how it ends
+/// where the answer's last fragment comes behind it.
+const TURNS: [(&str, &[&str], usize, End); 5] = [
     (
         "a datagram that is whole",
         &[ACCEPT_FRONT, ACCEPT_REST],
+        1,
         End::NoConnection,
     ),
     (
         "one that is whole, whose first fragment comes twice",
         &[ACCEPT_FRONT, ACCEPT_FRONT, ACCEPT_REST],
+        1,
         End::NoConnection,
     ),
     (
         "one that is whole to all but the station",
         &[ACCEPT_FRONT, OWN_REST],
+        2,
         End::OutOfTime,
     ),
     (
         "one that is whole to no one but the station",
         &[OWN_FRONT, ACCEPT_REST],
+        2,
         End::NoConnection,
     ),
     (
         "one that is open to all",
         &[ACCEPT_FRONT, ACCEPT_FRONT],
+        1,
         End::OutOfTime,
     ),
 ];
 
-/// The record of a frame with so many octets behind its packet.
-fn padded_record(alloc: Global, frame: &str, behind: usize) -> Result<Record, Fail> {
+/// The record of a frame at tick 0, from a sender of this number, with so much added to the datagram's identification.
+fn record_from(alloc: Global, frame: &str, sender: u8, datagram: u8) -> Result<Record, Fail> {
     let mut octets = from_hex(alloc, frame)?.into_vec();
-    let len = octets.len().saturating_add(behind);
-    octets.resize(len, 0)?;
-    Ok(Record {
-        tick: Tick(0),
-        frame: Bytes::from_vec(octets),
-    })
-}
-
-/// The same from a sender of this number, with so much added to the datagram's identification.
-fn record_from(
-    alloc: Global,
-    frame: &str,
-    sender: u8,
-    datagram: u8,
-    behind: usize,
-) -> Result<Record, Fail> {
-    let mut octets = padded_record(alloc, frame, behind)?.frame.into_vec();
     for (place, octet) in octets.iter_mut().enumerate() {
         match place {
             10 => *octet = 1,
@@ -384,14 +373,8 @@ fn both_hear(
     early: &mut Early,
     record: Record,
 ) -> Result<(), Fail> {
-    let mut octets = Vec::new(alloc);
-    octets.extend_from_slice(record.frame.as_slice())?;
-    let copy = Record {
-        tick: record.tick,
-        frame: Bytes::from_vec(octets),
-    };
+    early.hear(alloc, &record).expect(rt, "memory");
     tap.hear(record).expect(rt, "memory");
-    early.hear(alloc, copy).expect(rt, "memory");
     Ok(())
 }
 
@@ -406,81 +389,79 @@ fn end_behind(rt: &impl Abort, alloc: Global, tap: Tap) -> Result<End, Fail> {
 #[test]
 fn hears_fragments_of_each_sender(rt: HostRuntime) -> Result<(), Fail> {
     let alloc = rt.alloc();
-    for (name, frames, end) in &TURNS {
+    for (name, frames, views, end) in &TURNS {
         let mut tap = Tap::new(alloc, 1).expect(&rt, "memory");
         let mut early = Early::new(alloc).expect(&rt, "memory");
         for turn in 0..60 * frames.len() {
-            let record = padded_record(alloc, frames[turn % frames.len()], 65_536)?;
+            let record = record_of(alloc, 0, frames[turn % frames.len()])?;
             both_hear(&rt, alloc, &mut tap, &mut early, record)?;
         }
-        assert_eq!(rt; early.waiting.kept.len(), 0, "{name}");
+        assert_eq!(rt; early.apart.len(), *views, "{name}");
         assert_eq!(rt; end_behind(&rt, alloc, tap)?, *end, "{name}");
     }
     Ok(())
 }
 
 /// From how many senders the answer's first fragment comes, whether each has a datagram of its own; the answer's fragment that
-/// comes last, from one sender more; how many wait then, and how it ends.
+/// comes last, from one sender more; how many views there are then, and how it ends.
 type Senders<'a> = (u8, bool, &'a str, usize, End);
 
 const SENDERS: [Senders; 5] = [
-    (15, true, ACCEPT_FRONT, 0, End::OutOfTime),
-    // all datagrams are one
-    (60, false, ACCEPT_FRONT, 0, End::OutOfTime),
-    (60, false, ACCEPT_REST, 0, End::NoConnection),
+    (15, true, ACCEPT_FRONT, 16, End::OutOfTime),
+    // all datagrams are one, so that all are left the same
+    (60, false, ACCEPT_FRONT, 1, End::OutOfTime),
+    (60, false, ACCEPT_REST, 1, End::NoConnection),
     // to all others 16 datagrams are open, and they lose the rest, but the last fragment, which is of an open one
-    (60, true, ACCEPT_FRONT, 1, End::OutOfTime),
-    (60, true, ACCEPT_REST, 1, End::NoConnection),
+    (60, true, ACCEPT_FRONT, 17, End::OutOfTime),
+    (60, true, ACCEPT_REST, 17, End::NoConnection),
 ];
 
 #[test]
 fn hears_fragments_of_many_senders(rt: HostRuntime) -> Result<(), Fail> {
     let alloc = rt.alloc();
-    for (senders, own, last, waiting, end) in &SENDERS {
+    for (senders, own, last, views, end) in &SENDERS {
         let mut tap = Tap::new(alloc, 1).expect(&rt, "memory");
         let mut early = Early::new(alloc).expect(&rt, "memory");
         for sender in 0..*senders {
             let datagram = if *own { sender } else { 0 };
-            let record = record_from(alloc, ACCEPT_FRONT, sender, datagram, 0)?;
+            let record = record_from(alloc, ACCEPT_FRONT, sender, datagram)?;
             both_hear(&rt, alloc, &mut tap, &mut early, record)?;
         }
-        let record = record_from(alloc, last, *senders, 0, 0)?;
+        let record = record_from(alloc, last, *senders, 0)?;
         both_hear(&rt, alloc, &mut tap, &mut early, record)?;
-        assert_eq!(rt; early.waiting.kept.len(), *waiting, "{senders} {own}");
+        assert_eq!(rt; early.apart.len(), *views, "{senders} {own}");
         assert_eq!(rt; end_behind(&rt, alloc, tap)?, *end, "{senders} {own}");
     }
     Ok(())
 }
 
 /// From how many senders the last fragment of a datagram comes, whose first one came from another: it stays open to its sender
-/// alone. How many octets are behind each packet; the answer's fragment that comes last; how many wait then, and how it ends.
-type Closers<'a> = (u8, usize, &'a str, usize, End);
+/// alone. The answer's fragment that comes last, how many views there are then, and how it ends.
+type Closers<'a> = (u8, &'a str, usize, End);
 
-const CLOSERS: [Closers; 5] = [
-    (15, 0, ACCEPT_FRONT, 0, End::OutOfTime),
-    (16, 0, ACCEPT_FRONT, 2, End::OutOfTime),
-    (40, 0, ACCEPT_FRONT, 50, End::OutOfTime),
-    (40, 0, ACCEPT_REST, 50, End::NoConnection),
-    // for each four that wait one station's pools more are kept apart
-    (40, 65_536, ACCEPT_FRONT, 34, End::OutOfTime),
+const CLOSERS: [Closers; 4] = [
+    (15, ACCEPT_FRONT, 16, End::OutOfTime),
+    (16, ACCEPT_FRONT, 17, End::OutOfTime),
+    (40, ACCEPT_FRONT, 41, End::OutOfTime),
+    (40, ACCEPT_REST, 41, End::NoConnection),
 ];
 
 #[test]
 fn hears_fragments_that_one_sender_misses(rt: HostRuntime) -> Result<(), Fail> {
     let alloc = rt.alloc();
-    for (senders, behind, last, waiting, end) in &CLOSERS {
+    for (senders, last, views, end) in &CLOSERS {
         let mut tap = Tap::new(alloc, 1).expect(&rt, "memory");
         let mut early = Early::new(alloc).expect(&rt, "memory");
         for sender in 1..senders.saturating_add(1) {
-            let front = record_from(alloc, ACCEPT_FRONT, 0, sender, *behind)?;
+            let front = record_from(alloc, ACCEPT_FRONT, 0, sender)?;
             both_hear(&rt, alloc, &mut tap, &mut early, front)?;
-            let rest = record_from(alloc, ACCEPT_REST, sender, sender, *behind)?;
+            let rest = record_from(alloc, ACCEPT_REST, sender, sender)?;
             both_hear(&rt, alloc, &mut tap, &mut early, rest)?;
         }
-        let record = record_from(alloc, last, 0, 0, *behind)?;
+        let record = record_from(alloc, last, 0, 0)?;
         both_hear(&rt, alloc, &mut tap, &mut early, record)?;
-        assert_eq!(rt; early.waiting.kept.len(), *waiting, "{senders} {behind}");
-        assert_eq!(rt; end_behind(&rt, alloc, tap)?, *end, "{senders} {behind}");
+        assert_eq!(rt; early.apart.len(), *views, "{senders}");
+        assert_eq!(rt; end_behind(&rt, alloc, tap)?, *end, "{senders}");
     }
     Ok(())
 }

@@ -1,17 +1,17 @@
--- One view more has heard the fragment.
+-- One station more has heard the record.
 use Rattle.std.proofs.Common.{◌∙◌, ap, arith}
-use Rattle.tap_core.specs.Early.{after_waiting, packets_of, view_after}
-use Rattle.tap_core.proofs.Apart.{changed-view, each-step}
+use Rattle.tap_core.specs.Early.{view_after}
+use Rattle.tap_core.proofs.Apart.{each-step, same-view}
 use Rattle.tap_core.proofs.views.hear_each.Goals as goal
 
 pub loop-place-preserved : goal.loop-place-preserved
 loop-place-preserved c =
-    let k = c.args.fragment.now in
-    let v = c.index_mut-view.result.now in
-    let i = c.loop-place.place in
+    let f = view_after c.args.«record».now in
+    let v = c.index_mut.result.now in
     let h = c.loop-place.invariant in
-    let step = each-step (view_after k) c.args.views.now.items c.loop-place.views.items i v
+    let y = c.hear.new.self in
+    let step = each-step f c.args.views.now.items c.loop-place.views.items c.loop-place.place v
     (omega (arith, c.loop-place-test.true, c.len-place-end.ensures))
     (omega (arith, c.loop-place-test.true, c.len-place-end.ensures, h.2))
-    h.0 h.1 _ (changed-view (λ station pools. after_waiting (packets_of station) pools k) v _ c.hear.ensures ∙ ap (view_after k) c.index_mut-view.ensures.value)
+    h.0 h.1 y (same-view y (f v) c.hear.ensures.station c.hear.ensures.pools ∙ ap f c.index_mut.ensures.value)
     in (step.0, step.1, h.2)

@@ -8,16 +8,16 @@ use Rattle.std.specs.Str.{bytes_eq}
 use Rattle.std.proofs.lemmas.List.{append_assoc, append-nil, length-map}
 use Rattle.std.proofs.lemmas.List.Elements.{All-head, All-tail, All-cons, All-nil}
 use Rattle.std.proofs.lemmas.List.Kept.{AllPairs-cons}
-use Rattle.std.proofs.lemmas.Bool.{false≢true}
+use Rattle.std.proofs.lemmas.Bool.{false≢true, or_from, or_parts}
 use Rattle.std.proofs.lemmas.Slice.Eq.{bytes_eq-Decides}
 use Rattle.efi_base.specs.declared.plain.Record.{Record}
 use Rattle.ip_core.specs.Pools.{Pool}
 use Rattle.ip_core.specs.Bytes.{Bytes}
 use Rattle.tap_core.specs.declared.early.Early.{Early}
 use Rattle.tap_core.specs.declared.views.View.{View}
-use Rattle.tap_core.specs.Early.{has_view, is_view_of, left_by, AreApart, AreLeft, DiffersFrom, IsFew, IsLeft, IsLeftUnlike, KeepsFragments, Left}
-use Rattle.tap_core.specs.Frames.{heard_packet, right_packet}
-use Rattle.tap_core.proofs.Apart.{or-left, or-none, or-right, view-left}
+use Rattle.tap_core.specs.Early.{has_view, is_view_of, left_by, AreApart, AreLeft, DiffersFrom, IsFew, IsLeft, IsLeftUnlike, KeepsPools, PoolsBy}
+use Rattle.tap_core.specs.Frames.{heard_packet, verified_packet}
+use Rattle.tap_core.proofs.Apart.{view-left}
 
 -- those that aren't kept have the pools of the others
 abbrev GivesUp : List (Pool Bytes) → List Bool → List View → Type 0
@@ -62,9 +62,9 @@ kept-fewer station [] views h = refl
 kept-fewer station (true ∷ kept) [] h = refl
 kept-fewer station (false ∷ kept) [] h = refl
 kept-fewer station (true ∷ kept) (v ∷ views) h =
-    or-none (is_view_of station v) (has_view station (items_where_true kept views)) (or-left (is_view_of station v) (has_view station views) h)
-    (kept-fewer station kept views (or-right (is_view_of station v) (has_view station views) h))
-kept-fewer station (false ∷ kept) (v ∷ views) h = kept-fewer station kept views (or-right (is_view_of station v) (has_view station views) h)
+    or_from (is_view_of station v) (has_view station (items_where_true kept views)) (or_parts (is_view_of station v) (has_view station views) h).0
+    (kept-fewer station kept views (or_parts (is_view_of station v) (has_view station views) h).1)
+kept-fewer station (false ∷ kept) (v ∷ views) h = kept-fewer station kept views (or_parts (is_view_of station v) (has_view station views) h).1
 
 kept-apart : (kept : List Bool) (views : List View) → AreApart views → AreApart (items_where_true kept views)
 kept-apart [] views h = tt
@@ -74,15 +74,15 @@ kept-apart (true ∷ kept) (v ∷ views) h = (kept-fewer v.station.0 kept views 
 kept-apart (false ∷ kept) (v ∷ views) h = kept-apart kept views h.1
 
 -- a view that isn't kept is another station's, or that station is left what the others are
-given-by : (left : Left) (others : List (Pool Bytes)) (station : List ℕ) (v : View) (of : Bool) → is_view_of station v ≡ of → others ≡ left right_packet
-    → v.pools ≡ others → IsLeft left v → (is_view_of station v ≡ false → left (heard_packet station) ≡ left right_packet)
-    → left (heard_packet station) ≡ left right_packet
+given-by : (left : PoolsBy) (others : List (Pool Bytes)) (station : List ℕ) (v : View) (of : Bool) → is_view_of station v ≡ of → others ≡ left verified_packet
+    → v.pools ≡ others → IsLeft left v → (is_view_of station v ≡ false → left (heard_packet station) ≡ left verified_packet)
+    → left (heard_packet station) ≡ left verified_packet
 given-by left others station v true e there same here rest = sym (view-left left station v e here) ∙ same ∙ there
 given-by left others station v false e there same here rest = rest e
 
-kept-rest : (left : Left) (others : List (Pool Bytes)) (kept : List Bool) (views : List View) (station : List ℕ) → GivesUp others kept views
-    → others ≡ left right_packet → All (IsLeft left) views → (has_view station views ≡ false → left (heard_packet station) ≡ left right_packet)
-    → has_view station (items_where_true kept views) ≡ false → left (heard_packet station) ≡ left right_packet
+kept-rest : (left : PoolsBy) (others : List (Pool Bytes)) (kept : List Bool) (views : List View) (station : List ℕ) → GivesUp others kept views
+    → others ≡ left verified_packet → All (IsLeft left) views → (has_view station views ≡ false → left (heard_packet station) ≡ left verified_packet)
+    → has_view station (items_where_true kept views) ≡ false → left (heard_packet station) ≡ left verified_packet
 kept-rest left others [] views station g there each rest out = rest (ap (has_view station) g)
 kept-rest left others (true ∷ kept) [] station g there each rest out = rest refl
 kept-rest left others (false ∷ kept) [] station g there each rest out = rest refl
@@ -90,13 +90,13 @@ kept-rest left others (true ∷ kept) (v ∷ views) station g there each rest ou
     let of = is_view_of station v in
     let behind = has_view station (items_where_true kept views) in
     kept-rest left others kept views station g there (All-tail (IsLeft left) v views each)
-    (λ none. rest (or-none of (has_view station views) (or-left of behind out) none)) (or-right of behind out)
+    (λ none. rest (or_from of (has_view station views) (or_parts of behind out).0 none)) (or_parts of behind out).1
 kept-rest left others (false ∷ kept) (v ∷ views) station g there each rest out =
     given-by left others station v (is_view_of station v) refl there g.0 (All-head (IsLeft left) v views each)
     (λ e. kept-rest left others kept views station g.1 there (All-tail (IsLeft left) v views each)
-    (λ none. rest (or-none (is_view_of station v) (has_view station views) e none)) out)
+    (λ none. rest (or_from (is_view_of station v) (has_view station views) e none)) out)
 
-pub given-left : (left : Left) (others : List (Pool Bytes)) (before views : List View) → AreGivenUp others before views → AreLeft left others before
+pub given-left : (left : PoolsBy) (others : List (Pool Bytes)) (before views : List View) → AreGivenUp others before views → AreLeft left others before
     → AreLeft left others views
 given-left left others before views g h = subst (AreLeft left others) (sym g.are) (record {
   others_are = h.others_are;
@@ -145,15 +145,15 @@ others-of : (station : List ℕ) (views : List View) → has_view station views 
 others-of station [] out = All-nil (λ s. station ≢ s)
 others-of station (v ∷ views) out =
     All-cons (λ s. station ≢ s) (address v) (map address views)
-    (other-by (address v) station (bytes_eq (address v) station) (bytes_eq-Decides (address v) station) (or-left (is_view_of station v) (has_view station views) out))
-    (others-of station views (or-right (is_view_of station v) (has_view station views) out))
+    (other-by (address v) station (bytes_eq (address v) station) (bytes_eq-Decides (address v) station) (or_parts (is_view_of station v) (has_view station views) out).0)
+    (others-of station views (or_parts (is_view_of station v) (has_view station views) out).1)
 
 stations-differ : (views : List View) → AreApart views → AllPairs (λ a b. a ≢ b) (map address views)
 stations-differ [] h = λ i j d lt within. absurd (omega (arith, within))
 stations-differ (v ∷ views) h =
     AllPairs-cons (λ a b. a ≢ b) (address v) (map address views) (others-of (address v) views h.0) (stations-differ views h.1)
 
-stations-unlike : (left : Left) (others : List (Pool Bytes)) (views : List View) → others ≡ left right_packet → All (IsLeft left) views
+stations-unlike : (left : PoolsBy) (others : List (Pool Bytes)) (views : List View) → others ≡ left verified_packet → All (IsLeft left) views
     → All (DiffersFrom others) views → All (IsLeftUnlike left) (map address views)
 stations-unlike left others [] there each differ = All-nil (IsLeftUnlike left)
 stations-unlike left others (v ∷ views) there each differ =
@@ -183,7 +183,7 @@ left-none others views e none = record {
   rest = λ station out. refl;
 }
 
-pub keeps-none : (e : Early) → e.others ≡ [] → e.apart.items ≡ [] → e.enough ≡ 1 → KeepsFragments [] e
+pub keeps-none : (e : Early) → e.others ≡ [] → e.apart.items ≡ [] → e.enough ≡ 1 → KeepsPools [] e
 keeps-none e others none enough = record {
   left = left-none e.others e.apart.items others none;
   apart = subst AreApart (sym none) tt;

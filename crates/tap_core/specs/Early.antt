@@ -1,5 +1,5 @@
 -- What is kept of the records up to the one that asks for a connection, while no station is known: the pools that fragments left
--- open to some of the stations that sent them, each apart, and those that they left to all others alike.
+-- open to some stations, each apart, and those that they left to all others alike.
 use Rattle.std.specs.Prelude.{◌≡◌, ◌≢◌, ℕ, ◌+◌, ◌*◌, ◌≤◌, Bool, false, List, [], ◌∷◌, ◌++◌, All, AllPairs, Option, length, ⊤}
 use Rattle.std.specs.List.{list_any}
 use Rattle.std.specs.Option.{option_map_or}
@@ -12,15 +12,15 @@ use Rattle.ip_core.specs.Datagrams.{after_event}
 use Rattle.ip_core.specs.Frames.{event_of}
 use Rattle.tap_core.specs.declared.early.Early.{Early}
 use Rattle.tap_core.specs.declared.views.View.{View}
-use Rattle.tap_core.specs.Frames.{heard_packet, right_packet}
+use Rattle.tap_core.specs.Frames.{heard_packet, verified_packet}
 use Rattle.tap_core.specs.Hearing.{pools_by}
 
 -- the pools that are left open, by the packets that are heard
-abbrev pub Left : Type 0
-Left = (List ℕ → Option Packet) → List (Pool Bytes)
+abbrev pub PoolsBy : Type 0
+PoolsBy = (List ℕ → Option Packet) → List (Pool Bytes)
 
 -- those that records leave
-abbrev pub left_by : List Record → Left
+abbrev pub left_by : List Record → PoolsBy
 left_by records counts = pools_by counts [] records
 
 -- the view is this station's
@@ -32,7 +32,7 @@ abbrev pub has_view : List ℕ → List View → Bool
 has_view station views = list_any (is_view_of station) views
 
 -- a view has what is left to its station
-abbrev pub IsLeft : Left → View → Type 0
+abbrev pub IsLeft : PoolsBy → View → Type 0
 IsLeft left v = v.pools ≡ left (heard_packet v.station.0)
 
 -- a view after a record, which its station hears unless it sent it
@@ -45,10 +45,10 @@ view_at now v = record { station = v.station; pools = open_at now v.pools }
 
 -- The pools of the others are those that are left to one that sent none of the fragments, each view has what is left to its
 -- station, and whoever has no view is left what the others are.
-pub record AreLeft (left : Left) (others : List (Pool Bytes)) (views : List View) : Type 0 where
-  pub others_are : others ≡ left right_packet
+pub record AreLeft (left : PoolsBy) (others : List (Pool Bytes)) (views : List View) : Type 0 where
+  pub others_are : others ≡ left verified_packet
   pub each : All (IsLeft left) views
-  pub rest : (station : List ℕ) → has_view station views ≡ false → left (heard_packet station) ≡ left right_packet
+  pub rest : (station : List ℕ) → has_view station views ≡ false → left (heard_packet station) ≡ left verified_packet
 
 -- no two of the views are of one station
 abbrev pub AreApart : List View → Type 0
@@ -60,11 +60,11 @@ abbrev pub DiffersFrom : List (Pool Bytes) → View → Type 0
 DiffersFrom others v = v.pools ≢ others
 
 -- what is left to this station isn't what is left to one that sent none of the fragments
-abbrev pub IsLeftUnlike : Left → List ℕ → Type 0
-IsLeftUnlike left station = left (heard_packet station) ≢ left right_packet
+abbrev pub IsLeftUnlike : PoolsBy → List ℕ → Type 0
+IsLeftUnlike left station = left (heard_packet station) ≢ left verified_packet
 
--- The count is at most one more than twice the number of some different stations to each of which one front of the records left
--- other pools than to one that sent none of the fragments. The front is any, so this is a bound by the greatest number so far.
+-- The count is at most one more than twice the number of some different stations, to each of which one and the same front of the
+-- records left other pools than to one that sent none of the fragments. The front is any: a bound by the greatest number so far.
 pub record IsFew (records : List Record) (count : ℕ) : Type 0 where
   pub front : List Record
   pub behind : List Record
@@ -75,7 +75,7 @@ pub record IsFew (records : List Record) (count : ℕ) : Type 0 where
   pub few : count ≤ 2 * length stations + 1
 
 -- Whoever is the station, the pools that the records leave to it are there. No two views are of one station, and they are few.
-pub record KeepsFragments (records : List Record) (e : Early) : Type 0 where
+pub record KeepsPools (records : List Record) (e : Early) : Type 0 where
   pub left : AreLeft (left_by records) e.others e.apart.items
   pub apart : AreApart e.apart.items
   pub within : length e.apart.items ≤ e.enough
@@ -83,10 +83,10 @@ pub record KeepsFragments (records : List Record) (e : Early) : Type 0 where
 
 -- at its tick these pools drop the fragment that a record holds, so that it does no more to them than the tick
 abbrev pub drops : Record → List (Pool Bytes) → Bool
-drops r pools = option_map_or (λ p. is_dropped p (open_at r.tick.0 pools)) (right_packet r.frame) false
+drops r pools = option_map_or (λ p. is_dropped p (open_at r.tick.0 pools)) (verified_packet r.frame) false
 
--- a record leaves the same to each station that has no view as to one that sent none of the fragments
+-- to the others' pools a record does the same for each station that has no view as for one that sent none of the fragments
 abbrev pub AreAlike : Record → List (Pool Bytes) → List View → Type 0
 AreAlike r others views =
     (station : List ℕ) → has_view station views ≡ false
-    → after_event bytes_kept others (event_of (heard_packet station) r) ≡ after_event bytes_kept others (event_of right_packet r)
+    → after_event bytes_kept others (event_of (heard_packet station) r) ≡ after_event bytes_kept others (event_of verified_packet r)

@@ -11,8 +11,8 @@ unfoldable pub any_packet : List ℕ → Option Packet
 any_packet frame = packet_in_frame unverified_packet_of frame
 
 -- the packet of a frame, whoever sent it, with a right checksum of its header
-abbrev pub right_packet : List ℕ → Option Packet
-right_packet frame = packet_in_frame packet_of frame
+abbrev pub verified_packet : List ℕ → Option Packet
+verified_packet frame = packet_in_frame packet_of frame
 
 -- a frame from this station; one too short for an Ethernet header is from none
 abbrev pub is_sent : List ℕ → List ℕ → Bool
@@ -20,8 +20,8 @@ is_sent station frame = option_map_or (λ f. bytes_eq f.src station) (frame_of f
 
 -- the packet of a frame that the station heard, with a right checksum of its header: what it sent itself isn't heard
 unfoldable pub heard_packet : List ℕ → List ℕ → Option Packet
-heard_packet station frame = if is_sent station frame then None else right_packet frame
+heard_packet station frame = if is_sent station frame then None else verified_packet frame
 
 -- the frame holds a fragment, whose header has a right checksum: each station may hear it that didn't send it
 abbrev pub holds_fragment : List ℕ → Bool
-holds_fragment frame = option_map_or is_fragment (right_packet frame) false
+holds_fragment frame = option_map_or is_fragment (verified_packet frame) false

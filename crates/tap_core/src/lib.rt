@@ -5,7 +5,7 @@
 mod answer;
 // the stream of the connection, and the load of it
 mod download;
-// what is kept of the records in front of that segment
+// what is kept of the records up to the one that asks for the connection
 mod early;
 // how a download ends
 mod ends;
@@ -25,7 +25,7 @@ mod packets;
 mod passive;
 // how far a tap is
 mod stages;
-// how many records each station sent in front of it
+// how many records each station sent up to that one
 mod tally;
 // the tap that hears record by record
 mod tapping;

@@ -1,7 +1,7 @@
 //! The IPv4 packets in Ethernet frames, read through the layers below (RFC 894). What datagrams they make isn't here.
 ghost use Rattle.std.specs.Prelude.{◌≡◌, option_map};
 ghost use Rattle.wire_ip4.specs.Seen.{packet_seen};
-ghost use Rattle.tap_core.specs.Frames.{any_packet, heard_packet, holds_fragment, is_sent, right_packet};
+ghost use Rattle.tap_core.specs.Frames.{any_packet, heard_packet, holds_fragment, is_sent, verified_packet};
 
 use efi_base::Mac;
 use wire_ip4::{Ip, read_ip, read_ip_unverified};
@@ -35,12 +35,12 @@ pub fn read_heard(station: Mac, frame: &[u8]) -> Option<Ip<'_>>
     if is_sent(station, frame) {
         return None;
     }
-    read_right(frame)
+    read_verified(frame)
 }
 
 /// The packet of a frame, with a right checksum of its header, whoever sent it.
-pub fn read_right(frame: &[u8]) -> Option<Ip<'_>>
-    ensures { option_map packet_seen result ≡ right_packet frame.now }
+pub fn read_verified(frame: &[u8]) -> Option<Ip<'_>>
+    ensures { option_map packet_seen result ≡ verified_packet frame.now }
 {
     let Ok(ether) = read_ether(frame) else {
         return None;
@@ -58,7 +58,7 @@ pub fn read_right(frame: &[u8]) -> Option<Ip<'_>>
 pub fn holds_fragment(frame: &[u8]) -> bool
     ensures { result ≡ holds_fragment frame.now }
 {
-    match read_right(frame) {
+    match read_verified(frame) {
         Some(packet) => packet.mf || packet.place != 0,
         None => false,
     }

@@ -1,5 +1,5 @@
-//! Views: the pools that are left open to single stations, each of which hears all fragments but its own. Who has a view, and what
-//! stands for those who have none, isn't here.
+//! Views: the pools that are left open to single stations, each of which hears all fragments but its own. Who gets a view isn't
+//! here.
 ghost use Rattle.std.specs.Prelude.{◌≡◌, false, List, ℕ, map, All, option_map};
 ghost use Rattle.std.specs.List.{position};
 ghost use Rattle.efi_base.specs.declared.plain.Record.{Record};
@@ -7,7 +7,7 @@ ghost use Rattle.ip_core.specs.Bytes.{bytes_kept};
 ghost use Rattle.ip_core.specs.Datagrams.{after_event};
 ghost use Rattle.ip_core.specs.Frames.{event_at, event_of};
 ghost use Rattle.wire_ip4.specs.Seen.{packet_seen};
-ghost use Rattle.tap_core.specs.Early.{AreApart, AreLeft, DiffersFrom, Left, has_view, is_view_of, view_after, view_at};
+ghost use Rattle.tap_core.specs.Early.{AreApart, AreLeft, DiffersFrom, PoolsBy, has_view, is_view_of, view_after, view_at};
 ghost use Rattle.tap_core.specs.Frames.{heard_packet};
 
 use crate::packets::read_heard;
@@ -30,7 +30,7 @@ impl View {
         self.station == station
     }
 
-    /// The station hears a record, or only its tick passes where the station sent it.
+    /// The station hears a record. Only its tick passes where the station sent it, or where it holds no packet.
     fn hear(&mut self, record: &Record)
         ensures station { self.new.station ≡ self.old.station }
         ensures pools { self.new.pools ≡ after_event bytes_kept self.old.pools (event_of (heard_packet self.old.station.0) «record».now) }
@@ -40,7 +40,7 @@ impl View {
     }
 }
 
-/// What this packet does to pools where it is heard at a tick, or the tick alone. A datagram that it makes whole isn't looked at.
+/// A tick passes at these pools, and where there is a packet it is heard. A datagram that it makes whole isn't looked at.
 pub fn hear_packet(pools: &mut Reasm, now: Tick, packet: Option<Ip<'_>>)
     ensures { pools.new ≡ after_event bytes_kept pools.old (event_at now.0 (option_map packet_seen packet.entry)) }
 {
@@ -89,7 +89,7 @@ pub fn give_up(views: &mut Vec<View>, others: &Reasm)
     ensures differ { All (DiffersFrom others.now) views.new.items }
     ensures fewer { (station : List ℕ) → has_view station views.old.items ≡ false → has_view station views.new.items ≡ false }
     ensures apart { AreApart views.old.items → AreApart views.new.items }
-    ensures left { (left : Left) → AreLeft left others.now views.old.items → AreLeft left others.now views.new.items }
+    ensures left { (left : PoolsBy) → AreLeft left others.now views.old.items → AreLeft left others.now views.new.items }
 {
     views.retain(|view| !view.pools.is_same(others));
 }

@@ -6,7 +6,7 @@ use Rattle.tap_core.specs.Early.{has_view}
 use Rattle.tap_core.specs.Frames.{is_sent}
 use Rattle.tap_core.proofs.Alike.{heard-other, dropped-alike}
 use Rattle.tap_core.proofs.Apart.{known-here}
-use Rattle.tap_core.proofs.early.Early.know_sender.Goals as goal
+use Rattle.tap_core.proofs.early.Early.set_sender_apart.Goals as goal
 
 pub returns-in_default-clause-alike : goal.returns-in_default-clause-alike
 returns-in_default-clause-alike c = λ station out.

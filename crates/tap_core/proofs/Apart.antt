@@ -4,7 +4,7 @@ use Rattle.std.specs.Bool.{Decides}
 use Rattle.std.specs.List.{position}
 use Rattle.std.specs.Str.{bytes_eq}
 use Rattle.std.proofs.lemmas.List.{drop-drop, drop-set-lt, get_or-drop, map_more, take_more_set}
-use Rattle.std.proofs.lemmas.List.Elements.{All-head, All-tail, All-cons, All-append, All-get_or, All-nil, All-weaker}
+use Rattle.std.proofs.lemmas.List.Elements.{All-cons, All-append, All-get_or, All-map, All-nil, All-weaker}
 use Rattle.std.proofs.lemmas.List.Folds.{list_any-append}
 use Rattle.std.proofs.lemmas.Bool.{false≢true, or_from, or_parts}
 use Rattle.ip_core.proofs.Finding.{not-found}
@@ -31,11 +31,9 @@ with change v = record { station = v.station; pools = change v.station.0 v.pools
 -- where what is left changes as the pools of the views do, they have what is left
 each-with : (change : Change) (left left' : PoolsBy) → ((station : List ℕ) → change station (left (heard_packet station)) ≡ left' (heard_packet station))
     → (views : List View) → All (IsLeft left) views → All (IsLeft left') (map (with change) views)
-each-with change left left' same [] h = All-nil (IsLeft left')
-each-with change left left' same (v ∷ views) h =
-    All-cons (IsLeft left') (with change v) (map (with change) views)
-    (ap (change v.station.0) (All-head (IsLeft left) v views h) ∙ same v.station.0)
-    (each-with change left left' same views (All-tail (IsLeft left) v views h))
+each-with change left left' same views h =
+    All-map (IsLeft left') (with change) views
+    (All-weaker (IsLeft left) (λ v. IsLeft left' (with change v)) (λ v here. ap (change v.station.0) here ∙ same v.station.0) views h)
 
 has-with : (change : Change) (station : List ℕ) (views : List View) → has_view station (map (with change) views) ≡ has_view station views
 has-with change station [] = refl

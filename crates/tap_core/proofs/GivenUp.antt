@@ -6,7 +6,8 @@ use Rattle.std.specs.List.{items_where_true}
 use Rattle.std.specs.List.Retain.{IsFiltered, ReturnsInTurn}
 use Rattle.std.specs.Str.{bytes_eq}
 use Rattle.std.proofs.lemmas.List.{append_assoc, append-nil, length-map}
-use Rattle.std.proofs.lemmas.List.Elements.{All-head, All-tail, All-cons, All-nil}
+use Rattle.std.proofs.lemmas.List.Elements.{All-head, All-tail, All-cons, All-map, All-nil}
+use Rattle.std.proofs.lemmas.Grind.{get_or_picked}
 use Rattle.std.proofs.lemmas.List.Kept.{AllPairs-cons}
 use Rattle.std.proofs.lemmas.Bool.{false≢true, or_from, or_parts}
 use Rattle.std.proofs.lemmas.Slice.Eq.{bytes_eq-Decides}
@@ -51,11 +52,7 @@ module _ {F : Type 0} (R : F → View → Bool → F → Type 0) (others : List 
 -- ---- what holds of all holds of those that are kept
 
 kept-each : (P : View → Type 0) (kept : List Bool) (views : List View) → All P views → All P (items_where_true kept views)
-kept-each P [] views h = All-nil P
-kept-each P (true ∷ kept) [] h = All-nil P
-kept-each P (false ∷ kept) [] h = All-nil P
-kept-each P (true ∷ kept) (v ∷ views) h = All-cons P v (items_where_true kept views) (All-head P v views h) (kept-each P kept views (All-tail P v views h))
-kept-each P (false ∷ kept) (v ∷ views) h = kept-each P kept views (All-tail P v views h)
+kept-each P kept views h = λ k d within. let g = (get_or_picked kept views k d within).1 in subst P (sym g.2) (h g.0 d g.1)
 
 kept-fewer : (station : List ℕ) (kept : List Bool) (views : List View) → has_view station views ≡ false → has_view station (items_where_true kept views) ≡ false
 kept-fewer station [] views h = refl
@@ -155,11 +152,8 @@ stations-differ (v ∷ views) h =
 
 stations-unlike : (left : PoolsBy) (others : List (Pool Bytes)) (views : List View) → others ≡ left verified_packet → All (IsLeft left) views
     → All (DiffersFrom others) views → All (IsLeftUnlike left) (map address views)
-stations-unlike left others [] there each differ = All-nil (IsLeftUnlike left)
-stations-unlike left others (v ∷ views) there each differ =
-    All-cons (IsLeftUnlike left) (address v) (map address views)
-    (λ e. All-head (DiffersFrom others) v views differ (All-head (IsLeft left) v views each ∙ e ∙ sym there))
-    (stations-unlike left others views there (All-tail (IsLeft left) v views each) (All-tail (DiffersFrom others) v views differ))
+stations-unlike left others views there each differ =
+    All-map (IsLeftUnlike left) address views (λ k d within e. differ k d within (each k d within ∙ e ∙ sym there))
 
 -- where none are left but those that differ, twice as many and one are few
 pub few-left : (records : List Record) (others : List (Pool Bytes)) (views : List View) (n : ℕ) → AreLeft (left_by records) others views → AreApart views

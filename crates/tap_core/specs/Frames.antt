@@ -20,8 +20,8 @@ is_sent station frame = option_map_or (λ f. bytes_eq f.src station) (frame_of f
 
 -- the packet of a frame that the station heard, with a right checksum of its header: what it sent itself isn't heard
 unfoldable pub heard_packet : List ℕ → List ℕ → Option Packet
-heard_packet station frame = if is_sent station frame then None else verified_packet frame
+heard_packet station frame = if is_sent station frame then None else packet_in_frame packet_of frame
 
 -- the frame holds a fragment, whose header has a right checksum: each station may hear it that didn't send it
 abbrev pub holds_fragment : List ℕ → Bool
-holds_fragment frame = option_map_or is_fragment (verified_packet frame) false
+holds_fragment frame = option_map_or is_fragment (packet_in_frame packet_of frame) false

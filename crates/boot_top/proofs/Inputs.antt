@@ -14,8 +14,8 @@ use Rattle.wire_pcap.specs.Place.{IsThePlace}
 use Rattle.efi_base.specs.declared.fault.NoMemory.{NoMemory}
 use Rattle.wire_pcap.specs.declared.fault.CapFault.{CapFault}
 use Rattle.wire_pcap.specs.declared.fault.CapFault.TheVariants.{BadAt, OutOfResources}
-use Rattle.efi_base.specs.Intake.{TakesAtMost}
-use Rattle.efi_base.specs.declared.intake.InputFault.{InputFault}
+use Rattle.efi_outside.specs.Intake.{TakesAtMost}
+use Rattle.efi_outside.specs.declared.intake.InputFault.{InputFault}
 use Rattle.boot_top.specs.Answers.{IsRefused, IsWatched}
 use Rattle.boot_top.specs.declared.watching.Watched.{Watched}
 use Rattle.boot_top.specs.Streaming.{FeedsPiece, HasFed, HasWatched, HearsAll, IsStopped}

@@ -3,7 +3,7 @@ use Rattle.std.proofs.Common.{rules, ◌≡◌, ◌⊎◌, ℕ, List, [], Option
 use Rattle.boot_words.specs.declared.task.ExtractTask.{ExtractTask}
 use Rattle.boot_words.specs.declared.task.Task.TheVariants.{Extract}
 use Rattle.std.proofs.KnownBytes.{Consumes-nil}
-use Rattle.efi_base.specs.Intake.{TakesAtMost}
+use Rattle.efi_outside.specs.Intake.{TakesAtMost}
 use Rattle.boot_top.specs.Answers.{IsAnswerText}
 use Rattle.boot_top.specs.Commands.{AskToExtract}
 

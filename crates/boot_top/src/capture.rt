@@ -1,12 +1,12 @@
 //! The input of `extract`, read to its end in pieces.
 ghost use Rattle.std.specs.Prelude.{◌+◌, ◌≡◌, ◌≢◌, ◌<◌, ◌≤◌, ℕ, List, [], Err, length, IfOk, IfSome, IsErrOf, OnOk, vec_len};
 ghost use Rattle.std.specs.Io.KnownBytes.{IsAtEnd};
-ghost use Rattle.efi_base.specs.Intake.{HasInputCause, TakesAtMost, input_limit};
+ghost use Rattle.efi_outside.specs.Intake.{HasInputCause, TakesAtMost, input_limit};
 ghost use Rattle.boot_top.specs.Answers.{IsWatched};
 ghost use Rattle.boot_top.specs.Streaming.{FeedsPiece, HasWatched};
 
 use crate::watching::{Watched, Watching};
-use efi_base::{INPUT_LIMIT, InputFault, PIECE, Source};
+use efi_outside::{INPUT_LIMIT, InputFault, PIECE, Source};
 use std::alloc::Global;
 
 // The octets that are read at most: the last of them shows that the input is too long.

@@ -1,8 +1,8 @@
 //! The command `extract`: the image that a capture shows, or the report of it, or the line that refuses the input.
 ghost use Rattle.std.specs.Prelude.{◌+◌, ◌≡◌, ◌≢◌, ◌⊎◌, ◌<◌, List, [], ℕ, length, string_bytes, IfOk, IfSome};
 ghost use Rattle.std.specs.Io.KnownBytes.{Appends, IsAtEnd};
-ghost use Rattle.efi_base.specs.Causes.{AppendsFront, Rose};
-ghost use Rattle.efi_base.specs.Intake.{TakesAtMost, input_limit};
+ghost use Rattle.efi_outside.specs.Causes.{AppendsFront, Rose};
+ghost use Rattle.efi_outside.specs.Intake.{TakesAtMost, input_limit};
 ghost use Rattle.efi_base.specs.declared.plain.Record.{Record};
 ghost use Rattle.tcp_recv.specs.Stream.{front, is_over};
 ghost use Rattle.tap_core.specs.Shown.{Tells};
@@ -21,7 +21,8 @@ use crate::status::{
 use crate::watching::Watched;
 use boot_words::{Emit, ExtractTask};
 use doc_text::report_text;
-use efi_base::{InputFault, Miss, NoMemory, Sink, Source, write_all};
+use efi_base::NoMemory;
+use efi_outside::{InputFault, Miss, Sink, Source, write_all};
 use std::alloc::{AllocError, Global};
 use tap_core::{End, Seen, Shown};
 

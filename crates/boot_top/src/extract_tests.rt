@@ -20,7 +20,7 @@ use crate::sent_tests::{Plan, put_step};
 use crate::step_tests::step_of;
 use crate::text_tests::{field_of, octets_of, parsed_number, rows_of, word_of};
 use crate::{BAD_INPUT, ENDED_OTHERWISE, SUCCESS, run};
-use efi_base::{DropSink, MemSink, MemSource};
+use efi_outside::{DropSink, MemSink, MemSource};
 use std::alloc::{AllocError, Global};
 use std::process::Abort;
 use std::test::Fail;

@@ -13,7 +13,7 @@
 use crate::extract_tests::{answer_of, are_known, check_told, line_of, line_or, run_over};
 use crate::text_tests::{field_of, octets_of, parsed_number, rows_of};
 use crate::{BAD_WORDS, NOT_BUILT};
-use efi_base::{MemSink, MemSource};
+use efi_outside::{MemSink, MemSource};
 use std::alloc::Global;
 use std::process::Abort;
 use std::test::Fail;

@@ -1,8 +1,8 @@
 //! The top call: what the program does with its words, standard input and standard output.
 ghost use Rattle.std.specs.Prelude.{◌+◌, ◌≡◌, ◌≢◌, ◌⊎◌, ◌<◌, List, Option, ℕ, map, string_bytes, length, true, false, None, IfSome};
 ghost use Rattle.std.specs.Io.KnownBytes.{Appends, IsAtEnd};
-ghost use Rattle.efi_base.specs.Causes.{AppendsFront, Rose};
-ghost use Rattle.efi_base.specs.Intake.{TakesAtMost, input_limit};
+ghost use Rattle.efi_outside.specs.Causes.{AppendsFront, Rose};
+ghost use Rattle.efi_outside.specs.Intake.{TakesAtMost, input_limit};
 ghost use Rattle.boot_words.specs.Grammar.{grammar_task};
 ghost use Rattle.boot_words.specs.declared.task.Task.{Task};
 ghost use Rattle.boot_words.specs.declared.task.ExtractTask.{ExtractTask};
@@ -19,7 +19,7 @@ ghost use Rattle.boot_top.specs.Headline.{HasHonestPeer};
 use crate::extract::extract;
 use crate::status::{BAD_WORDS, NO_MEMORY, NOT_BUILT};
 use boot_words::{Task, WordsFault, read_words};
-use efi_base::{Sink, Source};
+use efi_outside::{Sink, Source};
 use std::alloc::Global;
 
 /// Does the work that the words after the program's name name, and answers the exit status. `src` is standard input,

@@ -1,4 +1,4 @@
 pub mod Filling
-pub mod Known
+pub mod LabelLaw
 pub mod Sums
 pub mod Written

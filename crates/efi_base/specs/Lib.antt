@@ -1,9 +1,7 @@
+pub mod Addresses
 pub mod Carries
-pub mod Causes
 pub mod Checksum
-pub mod Edge
-pub mod Intake
-pub mod Memory
+pub mod HostNames
 pub mod Reads
 pub mod Refusals
 pub mod Writes

@@ -6,8 +6,15 @@ use crate::octets::Bytes;
 pub struct Mac(pub [u8; 6]);
 
 /// An IPv4 address as a number: 10.0.0.1 is 0x0A000001.
-#[derive(Clone, Copy, PartialEq, Eq, Debug)]
+#[derive(Clone, Copy, PartialEq, Eq, Debug, Default)]
 pub struct Ip4(pub u32);
+
+/// An address with the mask of its network, ones in front.
+#[derive(Clone, Copy, PartialEq, Eq, Debug)]
+pub struct Addr {
+    pub ip: Ip4,
+    pub mask: u32,
+}
 
 /// The peer of a connection: its address and port.
 #[derive(Clone, Copy, PartialEq, Eq, Debug)]

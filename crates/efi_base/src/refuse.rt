@@ -42,3 +42,10 @@ pub enum Refuse {
     /// There was no memory for the work.
     OutOfResources,
 }
+
+/// Why a call is refused, and the work that was handed in, as it was.
+#[derive(Debug, Drop)]
+pub struct Refused<T> {
+    pub why: Refuse,
+    pub work: T,
+}

@@ -2,7 +2,7 @@
 #![tactic(auto)]
 
 use boot_top::{BAD_WORDS, NO_MEMORY, capture_name, run};
-use efi_base::{DropSink, FileSink, StdSink, StdSource};
+use efi_outside::{DropSink, FileSink, StdSink, StdSource};
 use std::process::ExitCode;
 use std::rt::Env;
 use std::{env, io};

@@ -1,20 +1,13 @@
 -- Routes, and the one by which a packet goes: that of the longest mask, and of the first added among equals (RFC 1812,
 -- section 5.2.4.3; masks are those of RFC 4632, section 3.1).
-use Rattle.std.specs.Prelude.{◌≡◌, ℕ, ◌-◌, ◌/◌, ◌^◌, ◌<◌, ◌≤◌, Bool, true, false, not, ◌&&◌, ◌==◌, nat_lt, IsTrue, List, ◌∷◌, ◌++◌, length, fold, remove, Option, Some, None, if◌then◌else◌, bit_and, count_ones, is_some, All}
+use Rattle.std.specs.Prelude.{◌≡◌, ℕ, ◌<◌, ◌≤◌, Bool, true, false, not, ◌&&◌, ◌==◌, nat_lt, IsTrue, List, ◌∷◌, ◌++◌, length, fold, remove, Option, Some, None, if◌then◌else◌, bit_and, count_ones, is_some, All}
 use Rattle.std.specs.List.{position}
 use Rattle.efi_base.specs.declared.refuse.Refuse.{Refuse}
 use Rattle.efi_base.specs.declared.refuse.Refuse.TheVariants.{AccessDenied, BadConfig, NotFound, NotReady}
 use Rattle.efi_base.specs.declared.refuse.Field.TheVariants as field
 use Rattle.ip_core.specs.declared.routes.Route.{Route}
+use Rattle.efi_base.specs.Addresses.{is_mask}
 use Rattle.efi_base.specs.Refusals.{first_of, refuse_if}
-
--- the mask of so many ones, with zeros behind them
-abbrev pub prefix_mask : ℕ → ℕ
-prefix_mask n = 2 ^ 32 - 2 ^ 32 / 2 ^ n
-
--- the mask is ones and then zeros: it is the one that has its ones in front
-abbrev pub is_mask : ℕ → Bool
-is_mask mask = mask == prefix_mask (count_ones mask)
 
 -- the route to every network, reached directly
 abbrev pub everywhere : Route

@@ -2,17 +2,14 @@
 //! reached.
 ghost use Rattle.std.specs.Prelude.{◌≡◌, [], ◌∷◌, ◌++◌, OnOk, OnErr, option_map};
 ghost use Rattle.efi_base.specs.Refusals.{RefusesExactly};
-ghost use Rattle.ip_core.specs.Routing.{is_mask, is_good, is_same, route_place, add_refusal, remove_refusal, without, matches, is_longer, best_of, next_hop, FindsBest};
+ghost use Rattle.ip_core.specs.Routing.{is_good, is_same, route_place, add_refusal, remove_refusal, without, matches, is_longer, best_of, next_hop, FindsBest};
 
 use arrayvec::ArrayVec;
-use efi_base::{Field, Ip4, Refuse};
+use efi_base::{Field, Ip4, Refuse, is_mask};
 use std::marker::Model;
 
 /// How many routes there may be.
 pub const ROUTES: usize = 64;
-
-/// How many addresses there are.
-const ADDRESSES: u64 = 1 << 32;
 
 /// The way to a network: its address, its mask, ones in front, and the router through which it is reached. The gate
 /// 0.0.0.0 says that it is reached directly.
@@ -118,13 +115,6 @@ fn is_same(r: Route, s: Route) -> bool
     ensures { result ≡ is_same r s }
 {
     r.dest.0 == s.dest.0 && (r.mask == s.mask && r.gate.0 == s.gate.0)
-}
-
-/// Whether the mask is ones and then zeros.
-fn is_mask(mask: u32) -> bool
-    ensures { result ≡ is_mask mask }
-{
-    mask as u64 == ADDRESSES - (ADDRESSES >> mask.count_ones())
 }
 
 /// Whether the route's mask is one, and its destination has no bits outside it.

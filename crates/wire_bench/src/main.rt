@@ -2,7 +2,8 @@
 //! and prints a number that all of them went into. The clock is the caller's (bench/wire.py).
 #![tactic(auto)]
 
-use efi_base::{Ip4, StdSource, checksum, read_all};
+use efi_base::{Ip4, checksum};
+use efi_outside::{StdSource, read_all};
 use std::{env, io};
 use wire_l4::read_tcp;
 

@@ -5,7 +5,6 @@ pub mod ChunkedSeen
 pub mod ChunkedWalks
 pub mod Feeds
 pub mod Joining
-pub mod LabelLaw
 pub mod LineCount
 pub mod LineSeen
 pub mod LineWalks

@@ -5,7 +5,8 @@ use Rattle.std.proofs.Math.Nat.{pow-le-pow_right, pow-succ'}
 use Rattle.std.proofs.lemmas.List.{take_all}
 use Rattle.std.specs.Char.{is_ascii_digit, digit_value}
 use Rattle.httparse.specs.Grammar.{trim_ows}
-use Rattle.wire_http.specs.Fields.{parts, grow, elements}
+use Rattle.wire_http.specs.Fields.{parts, elements}
+use Rattle.efi_base.specs.HostNames.{grow}
 
 -- no comma
 pub parts_whole : (text : List ℕ) → ((k : ℕ) → k < length text → get_or text k 0 ≢ 44) → parts text ≡ text ∷ []

@@ -11,6 +11,7 @@ use Rattle.wire_http.specs.declared.head.Framing.{Framing}
 use Rattle.wire_http.specs.declared.head.Framing.TheVariants.{Empty, Length, Chunked, Close, BadLength}
 use Rattle.efi_base.specs.declared.response.CodingField.{CodingField}
 use Rattle.efi_base.specs.declared.response.CodingField.TheVariants.{Content, Transfer}
+use Rattle.efi_base.specs.HostNames.{grow}
 
 -- a field: its name, and its value without the blanks around it
 abbrev pub Pair : Type 0
@@ -50,11 +51,6 @@ coding_of fields =
     if not (is_none_or_one (codes "identity") (content_codings fields)) then Some Content
     else if not (is_none_or_one (codes "chunked") (transfer_codings fields)) then Some Transfer
     else None
-
--- puts an octet in front of the first element
-abbrev pub grow : ℕ → List (List ℕ) → List (List ℕ)
-grow b [] = (b ∷ []) ∷ []
-grow b (x ∷ xs) = (b ∷ x) ∷ xs
 
 -- the parts between commas
 abbrev pub parts : List ℕ → List (List ℕ)

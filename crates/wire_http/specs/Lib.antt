@@ -4,7 +4,6 @@ pub mod Chunked
 pub mod Feeding
 pub mod Fields
 pub mod Heads
-pub mod HostNames
 pub mod Info
 pub mod Requests
 pub mod Response

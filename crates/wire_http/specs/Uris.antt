@@ -15,11 +15,8 @@ use Rattle.wire_http.specs.declared.hosts.Host.{Host}
 use Rattle.wire_http.specs.declared.hosts.Host.TheVariants.{At, Named}
 use Rattle.wire_http.specs.declared.uri_fault.UriFault.{UriFault}
 use Rattle.wire_http.specs.declared.uri_fault.UriFault.TheVariants as fault
-use Rattle.wire_http.specs.HostNames.{is_host_name}
-
--- a unicast address: neither 0.0.0.0 nor in 224.0.0.0/3
-abbrev pub is_unicast : ℕ → Bool
-is_unicast ip = not (ip == 0) && nat_lt ip (7 * 2 ^ 29)
+use Rattle.efi_base.specs.Addresses.{is_unicast}
+use Rattle.efi_base.specs.HostNames.{is_host_name}
 
 -- a host that can be asked: a unicast IPv4 address, or a name
 abbrev pub is_plain_host : Option (url_host.Host (List ℕ)) → Bool

@@ -38,7 +38,7 @@ mod uris;
 
 pub use bodies::{Body, BodyState, Fed};
 pub use head::{Framing, Head, HeadInfo, MOST_HEAD, read_head};
-pub use hosts::{Host, HostName};
+pub use hosts::Host;
 pub use laws::{
     bad_is_one, body_so_far_is_one, whole_front_is_whole, whole_is_not_bad, whole_is_one,
     whole_is_so_far, whole_stays,

@@ -4,20 +4,17 @@ ghost use Rattle.std.specs.Prelude.{◌≡◌, ◌≢◌, ◌≤◌, ◌^◌, fa
 ghost use Rattle.std.specs.Str.{is_utf8};
 ghost use Rattle.url.specs.Parts.{Parts};
 ghost use Rattle.url.specs.Parser.{parse_url};
-ghost use Rattle.wire_http.specs.Uris.{uri_of, taken, answer_to, fault_of, AnswersUri, refusal_of, is_plain_host, is_unicast, host_of, port_of};
+ghost use Rattle.wire_http.specs.Uris.{uri_of, taken, answer_to, fault_of, AnswersUri, refusal_of, is_plain_host, host_of, port_of};
 
-use crate::hosts::{Host, HostName, is_host_name};
+use crate::hosts::Host;
 use crate::uri_fault::UriFault;
-use efi_base::Ip4;
+use efi_base::{Ip4, Name, is_host_name, is_unicast};
 use std::alloc::Global;
 use std::marker::Model;
 use url::{ParseError, Url};
 
 /// The port of `http` (RFC 9110, section 4.2.1).
 pub const HTTP_PORT: u16 = 80;
-
-/// The first address that is no unicast address: 224.0.0.0.
-const FIRST_MULTICAST: u32 = 0xE000_0000;
 
 /// A URI of the scheme `http`, with a port above 0 and a host that can be asked.
 #[derive(Drop)]
@@ -48,7 +45,7 @@ impl Uri {
     {
         match self.url.host() {
             Some(url::Host::Ipv4(address)) => Host::At(Ip4(address.to_bits())),
-            Some(url::Host::Domain(name)) => Host::Named(HostName::from_slice(name.as_bytes())),
+            Some(url::Host::Domain(name)) => Host::Named(Name::from_slice(name.as_bytes())),
             _ => unreachable!(),
         }
     }
@@ -70,18 +67,12 @@ impl Uri {
     }
 }
 
-fn is_unicast(ip: u32) -> bool
-    ensures { result ≡ is_unicast ip }
-{
-    ip != 0 && ip < FIRST_MULTICAST
-}
-
 fn is_plain_host(url: &Url) -> bool
     ensures { result ≡ is_plain_host url.now.host }
 {
     match url.host() {
         Some(url::Host::Domain(name)) => is_host_name(name.as_bytes()),
-        Some(url::Host::Ipv4(address)) => is_unicast(address.to_bits()),
+        Some(url::Host::Ipv4(address)) => is_unicast(Ip4(address.to_bits())),
         _ => false,
     }
 }

@@ -1,7 +1,7 @@
 -- What a piece took joins what was taken before it, and at the source's end that is all.
 use Rattle.std.proofs.Common.{rules, ◌≡◌, ◌≤◌, ◌<◌, ◌+◌, arith}
 use Rattle.std.proofs.lemmas.List.{length-take}
-use Rattle.efi_base.proofs.Known.{TakesAtMost-more}
+use Rattle.efi_outside.proofs.Known.{TakesAtMost-more}
 use Rattle.boot_top.proofs.Inputs.{more-fed, whole-at-end, bound-at-end, taken-at-end, too-many}
 use Rattle.boot_top.proofs.capture.watch_source.Goals as goal
 

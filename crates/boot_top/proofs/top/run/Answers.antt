@@ -1,7 +1,7 @@
 -- What the command answered decides what the words and the input are answered.
 use Rattle.std.proofs.Common.{rules, ◌≡◌, ◌⊎◌, ℕ, Bool, true, false, List, Option, IfSome, Global, map, string_bytes, subst}
 use Rattle.std.specs.Io.KnownBytes.{Appends}
-use Rattle.efi_base.specs.Causes.{AppendsFront}
+use Rattle.efi_outside.specs.Causes.{AppendsFront}
 use Rattle.wire_http.specs.Response.{IsWhole}
 use Rattle.wire_l4.specs.Segment.{Segment}
 use Rattle.boot_words.specs.declared.task.Emit.TheVariants as emit

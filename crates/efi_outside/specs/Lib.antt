@@ -1,0 +1,4 @@
+pub mod Causes
+pub mod Edge
+pub mod Intake
+pub mod Memory

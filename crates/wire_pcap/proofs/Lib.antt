@@ -1,6 +1,7 @@
 pub mod Headers
 pub mod Moments
 pub mod Numbers
+pub mod Rising
 pub mod Splitting
 pub mod Standing
 pub mod Staying

@@ -6,4 +6,5 @@ pub mod Place
 pub mod Reading
 pub mod Stands
 pub mod Steps
+pub mod Ticks
 pub mod Written

@@ -5,6 +5,7 @@ ghost use Rattle.efi_base.specs.declared.plain.Record.{Record};
 ghost use Rattle.wire_pcap.specs.Grammar.{IsCapture, little_micros};
 ghost use Rattle.wire_pcap.specs.Place.{IsThePlace, NeverCapture};
 ghost use Rattle.wire_pcap.specs.Reading.{IsWhole};
+ghost use Rattle.wire_pcap.specs.Ticks.{RiseFrom};
 ghost use Rattle.wire_pcap.specs.Written.{Fits, capture_text, stored_of};
 
 /// Octets are a capture of one list of records at most: behind those that were given, no others can be ready.
@@ -20,4 +21,9 @@ pub fn bad_places_stay()
 /// A header that was written, and behind it records that fit, are a capture of these records.
 pub fn written_records_are_a_capture()
     ensures { (records : List Record) → AllByRecursion Fits records → IsCapture little_micros (capture_text records) (map stored_of records) }
+{}
+
+/// The ticks of a capture's records never fall, and each is below 2^43: the last second of 32 bits, in milliseconds.
+pub fn ticks_rise()
+    ensures { (bytes : List ℕ) (given ready : List Record) → IsWhole bytes given ready → RiseFrom 0 (given ++ ready) }
 {}

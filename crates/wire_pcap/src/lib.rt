@@ -24,7 +24,7 @@ mod stage;
 mod writer;
 
 pub use fault::CapFault;
-pub use laws::{bad_places_stay, records_are_one, written_records_are_a_capture};
+pub use laws::{bad_places_stay, records_are_one, ticks_rise, written_records_are_a_capture};
 pub use reader::PcapReader;
 pub use writer::{write_header, write_record};
 

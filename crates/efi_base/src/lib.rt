@@ -45,6 +45,3 @@ pub use response::{CodingField, Part};
 pub use station::{Known, Servers};
 pub use tokens::{ChildId, End, Owner, Proto, Ticket, TokenId};
 pub use units::{Datagram, IpPacket};
-
-#[cfg(test)]
-mod tests;

@@ -20,6 +20,3 @@ pub use intake::{INPUT_LIMIT, InputFault, PIECE, read_all};
 pub use memory::{MemSink, MemSource, SureSink, SureSource};
 pub use outside::{Sink, Source, write_all};
 pub use system::{DropSink, FileSink, StdSink, StdSource};
-
-#[cfg(test)]
-mod tests;

@@ -9,7 +9,7 @@ mod chunk_line;
 mod fields;
 // the head of a response
 mod head;
-// hosts: addresses and names
+// whom a URI names
 mod hosts;
 // what holds of the definitions
 mod laws;
@@ -23,16 +23,12 @@ mod request;
 mod runs;
 // what is kept of a body between two octets
 mod stage;
-#[cfg(test)]
-mod tests;
 // texts without case, and without the blanks around them
 mod text;
 // the trailer of a body in chunks
 mod trailer;
 // why a text is no URI of a load
 mod uri_fault;
-#[cfg(test)]
-mod uri_tests;
 // URIs of loads
 mod uris;
 

@@ -8,6 +8,3 @@ mod packet;
 
 pub use message::{Icmp, read_icmp, write_icmp};
 pub use packet::{Ip, read_ip, read_ip_unverified, write_ip};
-
-#[cfg(test)]
-mod tests;

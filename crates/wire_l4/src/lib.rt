@@ -17,8 +17,3 @@ pub use laws::{
     flags_are_at_their_places, written_datagram_is_read_again, written_segment_is_read_again,
 };
 pub use segment::{ACK, FIN, PSH, RST, SYN, Tcp, read_tcp, read_tcp_unverified, write_tcp};
-
-#[cfg(test)]
-mod datagram_tests;
-#[cfg(test)]
-mod tests;

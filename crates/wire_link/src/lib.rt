@@ -13,6 +13,3 @@ mod resolution;
 pub use frame::{Ether, read_ether, write_ether};
 pub use laws::operations_have_their_numbers;
 pub use resolution::{Arp, REPLY, REQUEST, read_arp, write_arp};
-
-#[cfg(test)]
-mod tests;

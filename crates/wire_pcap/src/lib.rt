@@ -27,6 +27,3 @@ pub use fault::CapFault;
 pub use laws::{bad_places_stay, records_are_one, ticks_rise, written_records_are_a_capture};
 pub use reader::PcapReader;
 pub use writer::{write_header, write_record};
-
-#[cfg(test)]
-mod tests;

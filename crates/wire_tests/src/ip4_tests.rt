@@ -1,7 +1,7 @@
 //! Packets of a capture and of a session, fragments, echo messages, and texts that are none. The sums were computed
 //! apart.
-use crate::{Icmp, Ip, read_icmp, read_ip, read_ip_unverified, write_icmp, write_ip};
 use efi_base::{Bad, Ip4, NoRoom};
+use wire_ip4::{Icmp, Ip, read_icmp, read_ip, read_ip_unverified, write_icmp, write_ip};
 
 const CLIENT: Ip4 = Ip4(0x0A00_0002);
 

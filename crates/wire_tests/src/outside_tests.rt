@@ -2,7 +2,7 @@
 //! file, and the system's own errors.
 ghost use Rattle.std.specs.Prelude.{◌≡◌, IfOk, None};
 
-use crate::{
+use efi_outside::{
     DropSink, Failed, FileSink, InputFault, MemSink, MemSource, Miss, PIECE, Sink, Source, StdSink,
     StdSource, SureSink, SureSource, read_all, write_all,
 };

@@ -1,7 +1,7 @@
 //! Frames and ARP packets of a capture and of a session, read and written, and texts that are none.
-use crate::{Arp, Ether, REPLY, REQUEST, read_arp, read_ether, write_arp, write_ether};
 use efi_base::{Bad, Ip4, Mac, NoRoom};
 use std::test::Fail;
+use wire_link::{Arp, Ether, REPLY, REQUEST, read_arp, read_ether, write_arp, write_ether};
 
 const CLIENT: Mac = Mac([2, 0, 0, 0, 0, 1]);
 

@@ -1,5 +1,5 @@
 //! Each public call on its happy path, with values from outside.
-use crate::{
+use efi_base::{
     Bytes, Ip4, Name, NoRoom, Servers, checksum, is_broadcast, is_mask, is_unicast, put_parts,
     u16_at, u32_at,
 };

@@ -1,7 +1,7 @@
 //! URIs from outside, and the requests that ask for them.
-use crate::{Host, UriFault, read_uri, request_text};
 use efi_base::Ip4;
 use std::alloc::Global;
+use wire_http::{Host, UriFault, read_uri, request_text};
 
 const LOOPBACK: u32 = 0x7F00_0001;
 

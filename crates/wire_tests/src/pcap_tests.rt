@@ -1,8 +1,8 @@
 //! Captures in all forms, read whole and in pieces, and written.
-use crate::{CapFault, PcapReader, write_header, write_record};
 use efi_base::{Bytes, NoRoom, Record, Tick};
 use std::alloc::{AllocError, Global};
 use std::test::Fail;
+use wire_pcap::{CapFault, PcapReader, write_header, write_record};
 
 /// The headers of captures, and what stands before the frames of their three records, in hexadecimal: little-endian
 /// and big-endian in microseconds, and then both in nanoseconds. The moments are 0, 2 and 4 milliseconds, the last two

@@ -1,6 +1,6 @@
 //! Heads and bodies from outside.
-use crate::{Body, BodyState, Framing, Head, HeadInfo, read_head};
 use efi_base::{CodingField, Part};
+use wire_http::{Body, BodyState, Framing, Head, HeadInfo, read_head};
 
 fn whole(status: u16, framing: Framing, coding: Option<CodingField>, len: usize) -> Head {
     let info = HeadInfo {

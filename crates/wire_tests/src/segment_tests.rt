@@ -1,6 +1,6 @@
 //! Segments of a capture and options of several shapes. The sums of those were computed apart.
-use crate::{ACK, FIN, PSH, SYN, Tcp, read_tcp, read_tcp_unverified, write_tcp};
 use efi_base::{Bad, Ip4, NoRoom};
+use wire_l4::{ACK, FIN, PSH, SYN, Tcp, read_tcp, read_tcp_unverified, write_tcp};
 
 const CLIENT: Ip4 = Ip4(0x0A00_0002);
 

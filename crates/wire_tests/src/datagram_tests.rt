@@ -1,6 +1,6 @@
 //! Datagrams of several shapes. Their sums were computed apart.
-use crate::{Udp, read_udp, write_udp};
 use efi_base::{Bad, Ip4, NoRoom};
+use wire_l4::{Udp, read_udp, write_udp};
 
 const CLIENT: Ip4 = Ip4(0x0A00_0002);
 

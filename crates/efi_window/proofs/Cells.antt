@@ -1,5 +1,5 @@
 -- The slots of a ring from a place on: how many, what stands in each, and what puts, takes and walks make of them.
-use Rattle.std.proofs.Common.{inl, inr, ◌∙◌, ◌≡◌, ◌⊎◌, ℕ, zero, suc, ◌+◌, ◌-◌, ◌%◌, ◌<◌, ◌≤◌, ◌==◌, Bool, true, false, List, [], ◌∷◌, ◌++◌, length, get_or, take, drop, max, Option, Some, None, is_none, refl, ap, sym, arith}
+use Rattle.std.proofs.Common.{inl, inr, ◌∙◌, ◌≡◌, ◌⊎◌, ℕ, zero, suc, ◌+◌, ◌-◌, ◌%◌, ◌<◌, ◌≤◌, nat_le, Bool, true, false, List, [], ◌∷◌, ◌++◌, length, get_or, take, drop, max, Option, Some, None, is_none, refl, ap, sym, arith}
 use Rattle.std.specs.List.{list_all}
 use Rattle.std.proofs.Math.Nat.{add-mod_right}
 use Rattle.std.proofs.lemmas.Bool.{cases_lt, cases_Bool}
@@ -336,40 +336,44 @@ front-slots room ring words place span i h k kept =
     some-same : (a b : ℕ) → Some a ≡ Some b → a ≡ b
     some-same a b e = cc
 
-free-slots : (room : ℕ) (ring words : List ℕ) (taken place span run : ℕ) → taken ≤ place → run ≤ span - (place - taken)
-    → ((i : ℕ) → i < run → is_kept words ((place + i) % room) ≡ false)
-    → (run < span - (place - taken) → is_kept words ((place + run) % room) ≡ true)
-    → (run == span - (place - taken)) ≡ list_all is_none (drop (place - taken) (slots room ring words taken span))
-free-slots room ring words taken place span run order h free ends =
-    elim (cases_lt run (span - (place - taken))) [
-      | inl l ↦
-          let at : place - taken + run < span = omega arith in
-          let e : taken + (place - taken + run) ≡ place + run = omega arith in
-          let kept = ap (λ n. is_kept words (n % room)) e ∙ ends l in
-          differs l ∙ sym (some-free (slots room ring words taken span) (place - taken) (place - taken + run) _ (omega arith)
-          (slots-at room ring words taken span (place - taken + run) at ∙ slot-kept _ _ kept))
-      | inr l ↦
-          same l ∙ sym (none-free (slots room ring words taken span) (place - taken) (λ i a b.
-          let k : i < span = omega (arith, slots-length room ring words taken span) in
-          let e : taken + i ≡ place + (i - (place - taken)) = omega arith in
-          slots-at room ring words taken span i k
-          ∙ slot-free _ _ (ap (λ n. is_kept words (n % room)) e ∙ free (i - (place - taken)) (omega arith))))
-    ]
+-- the last place that counts has a byte, so nothing is kept from a place on exactly where that isn't in front of the end
+pub free-from : (room : ℕ) (ring words : List ℕ) (place span n : ℕ) → (0 < span → is_kept words ((place + (span - 1)) % room) ≡ true)
+    → nat_le span n ≡ list_all is_none (drop n (slots room ring words place span))
+free-from room ring words place span n last = elim (cases_lt n span) [
+  | inl l ↦
+      below l ∙ sym (some-free (slots room ring words place span) n (span - 1) _ (omega arith)
+      (slots-at room ring words place span (span - 1) (omega arith) ∙ slot-kept _ _ (last (omega arith))))
+  | inr l ↦
+      past l ∙ sym (none-free (slots room ring words place span) n (λ i a b. absurd (omega (arith, slots-length room ring words place span))))
+]
   where
-    differs : run < span - (place - taken) → (run == span - (place - taken)) ≡ false
-    differs l = grind (arith, nat_tests)
+    below : n < span → nat_le span n ≡ false
+    below l = grind (arith, nat_tests)
 
-    same : span - (place - taken) ≤ run → (run == span - (place - taken)) ≡ true
-    same l = let e : run ≡ span - (place - taken) = omega arith in grind (arith, nat_tests, e)
+    past : span ≤ n → nat_le span n ≡ true
+    past l = grind (arith, nat_tests)
 
--- the same where the ring's front isn't the first place of all
-pub free-slots-at : (room : ℕ) (ring words : List ℕ) (origin taken place span run : ℕ) → origin ≤ taken → taken ≤ place → run ≤ span - (place - taken)
-    → ((i : ℕ) → i < run → is_kept words ((place - origin + i) % room) ≡ false)
-    → (run < span - (place - taken) → is_kept words ((place - origin + run) % room) ≡ true)
-    → (run == span - (place - taken)) ≡ list_all is_none (drop (place - taken) (slots room ring words (taken - origin) span))
-free-slots-at room ring words origin taken place span run front order h free ends =
-    let e : place - origin - (taken - origin) ≡ place - taken = omega arith in
-    rw e at (free-slots room ring words (taken - origin) (place - origin) span run (omega arith) (omega arith) free (λ l. ends (omega arith)))
+-- the last place that counts has a byte after a put
+pub last-put : (base at room span : ℕ) (bytes ring words now new : List ℕ) → base ≤ at → 0 < length bytes → IsPlaced room at bytes ring words now new
+    → (0 < span → is_kept words ((base + (span - 1)) % room) ≡ true)
+    → is_kept new ((base + (max span (at - base + length bytes) - 1)) % room) ≡ true
+last-put base at room span bytes ring words now new order some p last = elim (cases_lt span (at - base + length bytes)) [
+  | inl l ↦
+      let e : base + (max span (at - base + length bytes) - 1) ≡ at + (length bytes - 1) = omega arith in
+      ap (λ n. is_kept new (n % room)) e ∙ p.marked (length bytes - 1) (omega arith)
+  | inr l ↦
+      let e : base + (max span (at - base + length bytes) - 1) ≡ base + (span - 1) = omega arith in
+      ap (λ n. is_kept new (n % room)) e ∙ (p.stays _ (last (omega arith))).0
+]
+
+-- and after a take
+pub last-moved : (room : ℕ) (words new : List ℕ) (place to n span : ℕ) → span ≤ room
+    → ((i : ℕ) → n ≤ i → i < room → is_kept new ((place + i) % room) ≡ is_kept words ((place + i) % room))
+    → (0 < span → is_kept words ((place + (span - 1)) % room) ≡ true) → 0 < span - n → to ≡ place + n
+    → is_kept new ((to + (span - n - 1)) % room) ≡ true
+last-moved room words new place to n span h others last more moved =
+    let e : to + (span - n - 1) ≡ place + (span - 1) = omega (arith, moved) in
+    ap (λ k. is_kept new (k % room)) e ∙ others (span - 1) (omega arith) (omega arith) ∙ last (omega arith)
 
 -- the bytes that were copied for a take
 pub taken-bytes : (room : ℕ) (ring words : List ℕ) (place span run count : ℕ) (out old : List ℕ)

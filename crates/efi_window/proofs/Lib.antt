@@ -1,4 +1,3 @@
-pub mod Alike
 pub mod Cells
 pub mod Parts
 pub mod Rounds

@@ -113,15 +113,6 @@ copied place room count first second i ring out rest len some fits f s e h =
     ∙ get_or-take second ring (i - first) 0 (omega arith)
     ∙ ap (λ j. get_or ring j 0) back)))
 
--- a run up to the ring's end
-pub pieced : (place room count i : ℕ) (ring : List ℕ) → count ≤ room - place % room → i < length (take count (drop (place % room) ring))
-    → get_or (take count (drop (place % room) ring)) i 0 ≡ get_or ring ((place + i) % room) 0
-pieced place room count i ring fits h =
-    let within : i < count = omega (arith, length-take count (drop (place % room) ring)) in
-    get_or-take count (drop (place % room) ring) i 0 within
-    ∙ get_or-drop (place % room) ring i 0
-    ∙ ap (λ j. get_or ring j 0) (sym (near place room i (omega arith)))
-
 -- a ring that is as long as it was used up to some places holds them, wherever they stand in it
 pub up-to : (place room count len : ℕ) → min (place + count) room ≤ len → min (place % room + count) room ≤ len
 up-to place room count len h = omega (arith, mod-le place room)

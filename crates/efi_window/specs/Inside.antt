@@ -1,5 +1,5 @@
 -- What is true of each window that is kept in a ring.
-use Rattle.std.specs.Prelude.{◌≡◌, ◌+◌, ◌-◌, ◌*◌, ◌%◌, ◌^◌, ◌<◌, ◌≤◌, ℕ, min, false, length}
+use Rattle.std.specs.Prelude.{◌≡◌, ◌+◌, ◌-◌, ◌*◌, ◌%◌, ◌^◌, ◌<◌, ◌≤◌, ℕ, min, true, false, length}
 use Rattle.std.specs.Vec.{vec_capacity}
 use Rattle.efi_window.specs.Kept.{is_kept}
 use Rattle.efi_window.specs.declared.by_place.Window.TheInside.{Inside}
@@ -13,7 +13,7 @@ abbrev pub used : Inside → ℕ
 used w = min (w.taken - w.origin + w.span) w.room
 
 -- There is memory for all of the window, what is kept lies within it and below 2^62, the ring and its bits reach as far as the ring is
--- used, and behind the last byte all places of the ring are free.
+-- used, the last place that counts has a byte, and behind it all places of the ring are free.
 pub record IsWindow (w : Inside) : Type 0 where
   pub cap : w.cap ≤ w.room
   pub ring : used w ≤ length w.ring.items
@@ -24,3 +24,4 @@ pub record IsWindow (w : Inside) : Type 0 where
   pub taken : w.taken + w.span ≤ 2 ^ 62
   pub origin : w.origin ≤ w.taken
   pub free : (i : ℕ) → w.span ≤ i → i < w.room → is_kept w.words.items (spot w i) ≡ false
+  pub last : 0 < w.span → is_kept w.words.items (spot w (w.span - 1)) ≡ true

@@ -1,11 +1,11 @@
 //! The window.
-ghost use Rattle.std.specs.Prelude.{◌≡◌, ◌==◌, ◌+◌, ◌-◌, ◌^◌, ◌<◌, ◌≤◌, ◌++◌, [], ℕ, min, length, take, drop, IfOk, is_none, is_some, not, true, None, Some, get_or};
+ghost use Rattle.std.specs.Prelude.{◌≡◌, ◌==◌, ◌+◌, ◌-◌, ◌^◌, ◌<◌, ◌≤◌, ◌++◌, [], ℕ, min, length, take, drop, IfOk, is_none};
 ghost use Rattle.std.specs.List.{list_all};
 ghost use Rattle.efi_window.specs.Places.{Places, fresh, ready_of, after_pass, after_put, after_take};
 
 use crate::bits::words_for;
-use crate::memory::{copied, lengthen};
-use crate::ring::{copy, free, piece, put, reach, run};
+use crate::memory::lengthen;
+use crate::ring::{copy, free, put, reach, run};
 use efi_base::NoMemory;
 use std::alloc::Global;
 use std::marker::Model;
@@ -18,7 +18,7 @@ const END_OF_PLACES: u64 = 1 << 62;
 /// They stand in a ring, so what stays is never moved. A bit says whether a place is kept. `origin` is a place that stands
 /// at the ring's front; while nothing is kept it moves on with what was taken, so octets that come in order use the front
 /// alone. The ring and its bits are as long as they were used, within memory for all of them. `span` counts the places
-/// from the first one that wasn't taken up to the last byte.
+/// from the first one that wasn't taken up to the last byte, which is kept.
 #[derive(Debug, Drop)]
 pub struct Window {
     room: u32,
@@ -45,7 +45,7 @@ impl Model for Window {
 }
 
 impl Window {
-    /// An empty window of so many octets. Only this call and `try_clone` take memory.
+    /// An empty window of so many octets. Only this call takes memory.
     #[tactic(auto, using(crate::proofs::Words::none_kept))]
     pub fn open(alloc: Global, cap: u32) -> Result<Window, NoMemory>
         ensures { IfOk result (λ w. w ≡ fresh cap cap) }
@@ -58,23 +58,6 @@ impl Window {
             taken: 0,
             origin: 0,
             span: 0,
-            ring,
-            words,
-        })
-    }
-
-    /// A window that keeps the same, with memory of its own for all of it.
-    pub fn try_clone(&self, alloc: Global) -> Result<Window, NoMemory>
-        ensures { IfOk result (λ w. w ≡ self.now) }
-    {
-        let ring = copied(alloc, &self.ring, self.room as usize)?;
-        let words = copied(alloc, &self.words, words_for(self.room as usize))?;
-        Ok(Window {
-            room: self.room,
-            cap: self.cap,
-            taken: self.taken,
-            origin: self.origin,
-            span: self.span,
             ring,
             words,
         })
@@ -172,62 +155,7 @@ impl Window {
         requires { self.now.taken ≤ place }
         ensures { result ≡ list_all is_none (drop (place - self.now.taken) self.now.held) }
     {
-        let left = self.span.saturating_sub(place - self.taken) as usize;
-        run(
-            &self.words,
-            self.room as usize,
-            false,
-            place - self.origin,
-            left,
-        ) == left
-    }
-
-    /// How many places there are up to the last octet.
-    pub(crate) fn len(&self) -> u64
-        ensures { result ≡ length self.now.held }
-    {
-        self.span
-    }
-
-    /// Where the run of places that are all kept, or all free, ends from one on: they count from the first one not taken.
-    pub(crate) fn run_end(&self, set: bool, from: u64) -> u64
-        requires { from ≤ length self.now.held }
-        ensures least { from ≤ result }
-        ensures most { result ≤ length self.now.held }
-        ensures alike { (i : ℕ) → from ≤ i → i < result → is_some (get_or self.now.held i None) ≡ set }
-        ensures ends { result < length self.now.held → is_some (get_or self.now.held result None) ≡ not set }
-    {
-        let place = self.taken - self.origin + from;
-        let left = (self.span - from) as usize;
-        from + run(&self.words, self.room as usize, set, place, left) as u64
-    }
-
-    /// Octets that are kept, from one place up to another at most: fewer where the ring's end comes first. Places count here
-    /// too from the first one not taken.
-    pub(crate) fn octets(&self, from: u64, end: u64) -> &[u8]
-        requires order { from < end }
-        requires kept { (i : ℕ) → from ≤ i → i < end → is_some (get_or self.now.held i None) ≡ true }
-        ensures some { 0 < length result.now }
-        ensures most { from + length result.now ≤ end }
-        ensures octets { (i : ℕ) → i < length result.now → get_or self.now.held (from + i) None ≡ Some (get_or result.now i 0) }
-    {
-        let place = self.taken - self.origin + from;
-        let most = (end - from) as usize;
-        piece(&self.ring, self.room as usize, place, most)
-    }
-
-    /// Whether two windows have the same in all of their memory, which is quickly seen. Windows that keep the same may differ
-    /// where nothing is kept, but those of which nothing was taken since they were cleared don't.
-    pub(crate) fn is_twin(&self, other: &Window) -> bool
-        ensures { result ≡ true → self.now.held ≡ other.now.held }
-    {
-        if self.room != other.room || self.span != other.span {
-            return false;
-        }
-        if self.taken - self.origin != other.taken - other.origin {
-            return false;
-        }
-        self.words == other.words && self.ring == other.ring
+        self.span <= place - self.taken
     }
 
     /// Empties the window and gives it another length, without taking memory.

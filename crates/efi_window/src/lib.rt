@@ -12,8 +12,6 @@ mod memory;
 mod ring;
 // runs of a ring
 mod runs;
-// whether two windows keep the same
-mod same;
 
 pub use by_place::Window;
 pub use memory::lengthen;

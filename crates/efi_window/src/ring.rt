@@ -50,18 +50,6 @@ pub fn run(words: &[u64], room: usize, set: bool, place: u64, most: usize) -> us
     room - at + run_end(words, set, 0, most - (room - at))
 }
 
-/// The octets from a place on, up to so many or up to the ring's end.
-pub fn piece(ring: &[u8], room: usize, place: u64, most: usize) -> &[u8]
-    requires some { 0 < most }
-    requires fits { most ≤ room }
-    requires enough { min (place % room + most) room ≤ length ring.now }
-    ensures len { length result.now ≡ min most (room - place % room) }
-    ensures octets { (i : ℕ) → i < length result.now → get_or result.now i 0 ≡ get_or ring.now ((place + i) % room) 0 }
-{
-    let at = (place % room as u64) as usize;
-    &ring[at..at + most.min(room - at)]
-}
-
 /// Writes two runs to the front of a room, one behind the other.
 fn fill(out: &mut [u8], first: &[u8], second: &[u8])
     requires { length first.now + length second.now ≤ length out.old }

@@ -86,7 +86,7 @@ some-at : (b : Bool) (q i : ℕ) → cond b (Some q) None ≡ Some i → (b ≡ 
 some-at true q i e = (refl, ap (λ o. unwrap_or o 0) e)
 some-at false q i e = absurd (cc)
 
-pub found-at : {X : Type 0} (k : Keeping X) (key : Key) (pools : List (Pool X)) (i : ℕ) → position (is_of key) pools ≡ Some i → IsAt k key pools i
+found-at : {X : Type 0} (k : Keeping X) (key : Key) (pools : List (Pool X)) (i : ℕ) → position (is_of key) pools ≡ Some i → IsAt k key pools i
 found-at k key pools i e =
     let s = some-at (nat_lt (position_or_len (is_of key) pools) (length pools)) (position_or_len (is_of key) pools) i e in
     let less : position_or_len (is_of key) pools < length pools = grind (arith, nat_tests, s.0) in
@@ -96,8 +96,12 @@ found-nowhere : {X : Type 0} (k : Keeping X) (key : Key) (pools : List (Pool X))
 found-nowhere k key pools e =
     nowhere-place k key pools (past-all (is_of key) pools e)
 
--- a fragment within the places, of a key with a pool
-pub admitted : (f : Packet) (pools : List (Pool Bytes)) → reach_of f ≤ most_bytes → list_any (is_of (key_of f)) pools ≡ true → is_dropped f pools ≡ false
+-- a fragment that isn't too long lies within the places
+pub within : (f : Packet) → nat_lt most_bytes (reach_of f) ≡ false → reach_of f ≤ most_bytes
+within f h = grind (arith, nat_tests)
+
+-- one of a key with a pool
+admitted : (f : Packet) (pools : List (Pool Bytes)) → reach_of f ≤ most_bytes → list_any (is_of (key_of f)) pools ≡ true → is_dropped f pools ≡ false
 admitted f pools h any =
     let near : nat_lt most_bytes (reach_of f) ≡ false = grind (arith, nat_tests) in
     ap (λ b. b || (not (list_any (is_of (key_of f)) pools) && nat_le most_pools (length pools))) near
@@ -113,7 +117,7 @@ admitted-new f pools h any less =
     ∙ ap (λ b. not b && nat_le most_pools (length pools)) any ∙ room
 
 -- one of a new key while none is free
-pub dropped-new : (f : Packet) (pools : List (Pool Bytes)) → list_any (is_of (key_of f)) pools ≡ false → most_pools ≤ length pools → is_dropped f pools ≡ true
+dropped-new : (f : Packet) (pools : List (Pool Bytes)) → list_any (is_of (key_of f)) pools ≡ false → most_pools ≤ length pools → is_dropped f pools ≡ true
 dropped-new f pools any full =
     let room : nat_le most_pools (length pools) ≡ true = grind (arith, nat_tests) in
     or-true (nat_lt most_bytes (reach_of f)) _ (ap (λ b. not b && nat_le most_pools (length pools)) any ∙ room)

@@ -2,7 +2,6 @@ pub mod Best
 pub mod Closing
 pub mod Filling
 pub mod Finding
-pub mod Full
 pub mod Joining
 pub mod Standings
 pub mod Records

@@ -1,12 +1,12 @@
 //! Datagrams from fragments (RFC 791, section 3.2): pools that hold the fragments of one datagram each, until it is
 //! whole or too old. Nothing here reads a header.
-ghost use Rattle.std.specs.Prelude.{⊤, true, List, ◌≡◌, ◌+◌, ◌≤◌, ◌<◌, [], nat_le, nat_lt, length, take, remove, slice_set, slice_index_or, IfOk, IfSome, option_map, is_some, vec_len, if◌then◌else◌};
-ghost use Rattle.std.specs.List.{list_all, position};
+ghost use Rattle.std.specs.Prelude.{⊤, List, ◌≡◌, ◌+◌, ◌≤◌, ◌<◌, [], nat_lt, length, take, remove, slice_set, slice_index_or, IfOk, IfSome, option_map, is_some, vec_len, if◌then◌else◌};
+ghost use Rattle.std.specs.List.{position};
 ghost use Rattle.std.specs.Vec.{vec_capacity};
 ghost use Rattle.std.specs.Borrow.{sem, follows_so};
 ghost use Rattle.wire_ip4.specs.Packet.{Packet};
 ghost use Rattle.wire_ip4.specs.Seen.{packet_seen};
-ghost use Rattle.ip_core.specs.Pools.{Pool, key_of, is_dropped, is_of, lasts, open_at, most_bytes, most_pools, reach_of, joined, after_fragment, after_packet, datagram_at};
+ghost use Rattle.ip_core.specs.Pools.{Pool, key_of, is_of, open_at, most_bytes, most_pools, reach_of, joined, after_fragment, after_packet, datagram_at};
 ghost use Rattle.ip_core.specs.Bytes.{Bytes, bytes_kept, bytes_with};
 ghost use Rattle.ip_core.specs.Datagrams.{fragments_kept};
 ghost use Rattle.ip_core.specs.Standing.{StandFor};
@@ -22,7 +22,7 @@ use wire_ip4::Ip;
 /// How many pools may be open.
 pub const POOLS: usize = 16;
 
-/// Up to 16 pools, in the order in which they opened. Only `new` and `try_clone` take memory.
+/// Up to 16 pools, in the order in which they opened. Only `new` takes memory.
 #[derive(Drop)]
 pub struct Reasm {
     pools: Vec<Slot>,
@@ -52,18 +52,7 @@ impl Reasm {
         ensures { IfOk result (λ r. r ≡ []) }
     {
         let pools = Vec::with_capacity(alloc, POOLS)?;
-        let free = free_slots(alloc, POOLS)?;
-        let room = Vec::with_capacity(alloc, MOST_OCTETS as usize)?;
-        Ok(Reasm { pools, free, room })
-    }
-
-    /// A reassembly in which the same pools are open, in the same order, and hold the same. It takes memory of its own for
-    /// all 16 pools, as `new` does.
-    pub fn try_clone(&self, alloc: Global) -> Result<Reasm, NoMemory>
-        ensures { IfOk result (λ r. r ≡ self.now) }
-    {
-        let pools = clones(alloc, &self.pools)?;
-        let free = free_slots(alloc, POOLS - pools.len())?;
+        let free = free_slots(alloc)?;
         let room = Vec::with_capacity(alloc, MOST_OCTETS as usize)?;
         Ok(Reasm { pools, free, room })
     }
@@ -86,22 +75,6 @@ impl Reasm {
             Some(count) => Some(lent(p, &self.room[..count])),
             None => None,
         }
-    }
-
-    /// Whether a fragment that comes at a tick is dropped: one that reaches past the most octets of a datagram, or of a new
-    /// key while all pools are open. It then does no more than that tick. Of a packet that isn't fragmented it tells nothing.
-    pub fn drops(&self, now: Tick, f: &Ip) -> bool
-        ensures { result ≡ is_dropped (packet_seen f.now) (open_at now.0 self.now) }
-    {
-        is_too_long(f) || (is_full(&self.pools, now.0) && find(&self.pools, key_of(f)).is_none())
-    }
-
-    /// Whether the same pools are open in both, in the same order, and hold the same.
-    pub fn is_same(&self, other: &Reasm) -> bool
-        ensures same { result ≡ true → self.now ≡ other.now }
-        ensures differs { self.now ≡ other.now → result ≡ true }
-    {
-        are_same(&self.pools, &other.pools)
     }
 
     /// Closes the pools that are over.
@@ -129,27 +102,14 @@ fn lent<'a>(p: &Ip, payload: &'a [u8]) -> Whole<'a>
     }
 }
 
-/// So many free slots, in a list with memory for all 16.
-fn free_slots(alloc: Global, count: usize) -> Result<Vec<Slot>, NoMemory>
-    ensures count { IfOk result (λ slots. vec_len slots ≡ count) }
+/// The slots, of which each is free.
+fn free_slots(alloc: Global) -> Result<Vec<Slot>, NoMemory>
+    ensures count { IfOk result (λ slots. vec_len slots ≡ most_pools) }
     ensures memory { IfOk result (λ slots. most_pools ≤ vec_capacity slots) }
 {
     let mut slots = Vec::with_capacity(alloc, POOLS)?;
-    for _ in 0..count {
+    for _ in 0..POOLS {
         let slot = Slot::new(alloc)?;
-        slots.push(slot)?;
-    }
-    Ok(slots)
-}
-
-/// The same pools in slots of their own, in a list with memory for all 16.
-fn clones(alloc: Global, pools: &[Slot]) -> Result<Vec<Slot>, NoMemory>
-    ensures items { IfOk result (λ slots. slots.items ≡ pools.now) }
-    ensures memory { IfOk result (λ slots. most_pools ≤ vec_capacity slots) }
-{
-    let mut slots = Vec::with_capacity(alloc, POOLS)?;
-    for pool in pools {
-        let slot = pool.try_clone(alloc)?;
         slots.push(slot)?;
     }
     Ok(slots)
@@ -193,45 +153,11 @@ fn is_too_long(f: &Ip) -> bool
     f.place as usize + f.payload.len() > MOST_OCTETS as usize
 }
 
-/// Whether all pools that may be open are open at a tick.
-fn is_full(pools: &[Slot], now: u64) -> bool
-    requires { length pools.now ≤ most_pools }
-    ensures full { result ≡ nat_le most_pools (length (open_at now pools.now)) }
-    ensures all { result ≡ true → open_at now pools.now ≡ pools.now }
-{
-    pools.len() == POOLS && all_last(pools, now)
-}
-
-/// Whether none of the pools is over.
-fn all_last(pools: &[Slot], now: u64) -> bool
-    ensures { result ≡ list_all (lasts now) pools.now }
-{
-    pools.iter().all(|slot| slot.lasts(now))
-}
-
 /// Where the key's pool is.
 fn find(pools: &[Slot], key: FragmentKey) -> Option<usize>
     ensures { result ≡ position (is_of (key_seen key)) pools.now }
 {
     pools.iter().position(|slot| slot.is_of(key))
-}
-
-/// Whether these are the same pools in the same order.
-fn are_same(pools: &[Slot], others: &[Slot]) -> bool
-    ensures same { result ≡ true → pools.now ≡ others.now }
-    ensures differs { pools.now ≡ others.now → result ≡ true }
-{
-    if pools.len() != others.len() {
-        return false;
-    }
-    let mut place = 0;
-    while place < pools.len() {
-        if !pools[place].is_same(&others[place]) {
-            return false;
-        }
-        place += 1;
-    }
-    true
 }
 
 /// Takes in a fragment, and moves the octets of its datagram into the room where they are whole.

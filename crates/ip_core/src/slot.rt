@@ -1,5 +1,5 @@
 //! The memory of one pool: the bytes of one datagram's fragments by their places (RFC 791, section 3.2).
-ghost use Rattle.std.specs.Prelude.{◌≡◌, ◌+◌, ◌≤◌, true, length, take, IfOk, IfSome, IfNone, option_map, vec_len};
+ghost use Rattle.std.specs.Prelude.{◌≡◌, ◌+◌, ◌≤◌, length, take, IfOk, IfSome, IfNone, option_map, vec_len};
 ghost use Rattle.std.specs.Vec.{vec_capacity};
 ghost use Rattle.wire_ip4.specs.Seen.{packet_seen};
 ghost use Rattle.ip_core.specs.Pools.{Pool, key_of, is_key, is_of, lasts, most_bytes};
@@ -51,7 +51,7 @@ impl Model for Slot {
 }
 
 impl Slot {
-    /// A slot of no pool. Only this call and `try_clone` take memory.
+    /// A slot of no pool. Only this call takes memory.
     pub fn new(alloc: Global) -> Result<Slot, NoMemory>
         ensures opened { IfOk result (λ s. s.opened ≡ 0) }
         ensures kept { IfOk result (λ s. s.kept ≡ bytes_kept.nothing) }
@@ -66,19 +66,6 @@ impl Slot {
             },
             opened: 0,
             end: None,
-            window,
-        })
-    }
-
-    /// A slot of the same pool that holds the same, in memory of its own.
-    pub fn try_clone(&self, alloc: Global) -> Result<Slot, NoMemory>
-        ensures { IfOk result (λ s. s ≡ self.now) }
-    {
-        let window = self.window.try_clone(alloc)?;
-        Ok(Slot {
-            key: self.key,
-            opened: self.opened,
-            end: self.end,
             window,
         })
     }
@@ -105,20 +92,6 @@ impl Slot {
         ensures { result ≡ lasts now self.now }
     {
         now.saturating_sub(self.opened) < LIFETIME
-    }
-
-    /// Whether both hold the same pool.
-    pub fn is_same(&self, other: &Slot) -> bool
-        ensures same { result ≡ true → self.now ≡ other.now }
-        ensures differs { self.now ≡ other.now → result ≡ true }
-    {
-        if !is_key(self.key, other.key) || self.opened != other.opened {
-            return false;
-        }
-        if !is_end(self.end, other.end) {
-            return false;
-        }
-        self.window.holds_same(&other.window)
     }
 
     /// Keeps a fragment's octets, each where none stands yet.
@@ -170,14 +143,6 @@ fn is_key(k: FragmentKey, l: FragmentKey) -> bool
     ensures { result ≡ is_key (key_seen k) (key_seen l) }
 {
     k.src.0 == l.src.0 && (k.dest.0 == l.dest.0 && (k.proto == l.proto && k.id == l.id))
-}
-
-/// Whether both are the same end, or none.
-fn is_end(one: Option<u64>, other: Option<u64>) -> bool
-    ensures same { result ≡ true → one ≡ other }
-    ensures differs { one ≡ other → result ≡ true }
-{
-    one == other
 }
 
 /// The end with one more fragment.

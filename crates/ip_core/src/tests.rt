@@ -98,23 +98,6 @@ fn open_pools(rt: &impl Abort, reasm: &mut Reasm, count: u16) {
 fn sixteen_pools(rt: HostRuntime) {
     let mut reasm = Reasm::new(rt.alloc()).expect(&rt, "memory for 16 pools");
     open_pools(&rt, &mut reasm, 17);
-    let rows: [(u64, u16, u16, bool); 6] = [
-        (0, 16, 8, true),
-        (29_999, 16, 8, true),
-        (30_000, 16, 8, false),
-        (0, 0, 16, false),
-        // the last octet that a datagram has, and one behind it
-        (0, 0, 65_512, false),
-        (0, 0, 65_520, true),
-    ];
-    for (tick, id, place, dropped) in rows {
-        let fragment = packet(id, place, false, b"end");
-        assert_eq!(rt;
-            reasm.drops(Tick(tick), &fragment),
-            dropped,
-            "{tick} {id} {place}"
-        );
-    }
     let rows: [Row; 2] = [
         (0, 16, 8, false, b"none", None),
         (0, 0, 16, false, b"its own pool", None),
@@ -129,66 +112,6 @@ fn sixteen_pools(rt: HostRuntime) {
         (30_000, 16, 8, false, b"is free", Some(b"a place is free")),
     ];
     hears(&rt, &mut reasm, &rows);
-}
-
-/// What one reassembly hears, and another, and whether both hold the same then.
-type Pair<'a> = (&'a [Row<'a>], &'a [Row<'a>], bool);
-
-/// Whether both are as the pair says after what they heard, from both sides.
-fn compares(rt: &impl Abort, one: &mut Reasm, other: &mut Reasm, pair: &Pair) -> bool {
-    let (ones, others, same) = pair;
-    hears(rt, one, ones);
-    hears(rt, other, others);
-    one.is_same(other) == *same && other.is_same(one) == *same
-}
-
-#[test]
-fn compares_reassemblies(rt: HostRuntime) {
-    let first: Row = (0, 1, 0, true, b"abcdefgh", None);
-    let third: Row = (0, 1, 16, true, b"qrstuvwx", None);
-    let second: Row = (0, 2, 0, true, b"abcdefgh", None);
-    let pairs: [Pair; 8] = [
-        (&[first, third], &[third, first], true),
-        (&[], &[(0, 1, 0, false, b"whole", Some(b"whole"))], true),
-        (&[first], &[], false),
-        // the tick, an octet, the end, the order, the key
-        (&[first], &[(1, 1, 0, true, b"abcdefgh", None)], false),
-        (&[first], &[(0, 1, 0, true, b"abcdefgX", None)], false),
-        (&[third], &[(0, 1, 16, false, b"qrstuvwx", None)], false),
-        (&[first, second], &[second, first], false),
-        (&[first], &[second], false),
-    ];
-    for pair in pairs {
-        let mut one = Reasm::new(rt.alloc()).expect(&rt, "memory for 16 pools");
-        let mut other = Reasm::new(rt.alloc()).expect(&rt, "memory for 16 pools");
-        assert!(rt; compares(&rt, &mut one, &mut other, &pair));
-    }
-}
-
-#[test]
-fn clone_goes_on_alone(rt: HostRuntime) {
-    let mut first = Reasm::new(rt.alloc()).expect(&rt, "memory for 16 pools");
-    let begun: [Row; 3] = [
-        (5, 1, 16, false, b"end", None),
-        (6, 2, 0, true, b"22222222", None),
-        (7, 1, 8, true, b"BBBBBBBB", None),
-    ];
-    hears(&rt, &mut first, &begun);
-    let mut clone = first
-        .try_clone(rt.alloc())
-        .expect(&rt, "memory for 16 pools more");
-    assert!(rt; clone.is_same(&first));
-    let rest: [Row; 2] = [
-        (8, 1, 0, true, b"AAAAAAAA", Some(b"AAAAAAAABBBBBBBBend")),
-        (8, 2, 8, false, b"two", Some(b"22222222two")),
-    ];
-    hears(&rt, &mut clone, &rest);
-    // in the first one both datagrams are open, and the octets at the front are those that it hears itself
-    let own: [Row; 2] = [
-        (9, 1, 0, true, b"aaaaaaaa", Some(b"aaaaaaaaBBBBBBBBend")),
-        (9, 2, 8, false, b"too", Some(b"22222222too")),
-    ];
-    hears(&rt, &mut first, &own);
 }
 
 /// A route by its numbers.

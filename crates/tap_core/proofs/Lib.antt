@@ -1,9 +1,7 @@
-pub mod Alike
-pub mod Apart
 pub mod Counts
-pub mod GivenUp
 pub mod HeardLaws
 pub mod Honest
+pub mod Kept
 pub mod OneEnd
 pub mod OneThing
 pub mod Records

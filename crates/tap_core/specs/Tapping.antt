@@ -1,4 +1,5 @@
--- What a tap stands for that has heard records one after the other. None of them is kept.
+-- What a tap stands for that has heard records one after the other. Of them fragments alone are kept, and these only until one
+-- asks for a connection.
 use Rattle.std.specs.Prelude.{◌≡◌, ℕ, ◌<◌, false, List, [], Option, Some, None, All, vec_len}
 use Rattle.efi_base.specs.declared.plain.Record.{Record}
 use Rattle.wire_l4.specs.Segment.{Segment}
@@ -12,7 +13,7 @@ use Rattle.tap_core.specs.declared.stages.Waiting.{Waiting}
 use Rattle.tap_core.specs.declared.passive.Seen.{Seen}
 use Rattle.tap_core.specs.Connections.{accepts_at, board_after}
 use Rattle.tap_core.specs.Counting.{Counted, Tallies}
-use Rattle.tap_core.specs.Early.{KeepsPools}
+use Rattle.tap_core.specs.Early.{KeepsFragments}
 use Rattle.tap_core.specs.Ends.{MeetNothing}
 use Rattle.tap_core.specs.Following.{Follows}
 use Rattle.tap_core.specs.Hearing.{pools_sent, pools_from}
@@ -25,7 +26,7 @@ use Rattle.tap_core.specs.Watching.{IsSeenOf}
 pub record IsWaiting (records : List Record) (w : Waiting) : Type 0 where
   pub none : All (λ o. o ≡ None) (openings_of records)
   pub pools : w.reasm ≡ pools_sent records
-  pub early : KeepsPools records w.early
+  pub early : KeepsFragments records w.early
   pub tally : Tallies records w.tally
 
 -- the station has heard the records: the pools are those that the records leave open to it, and the counts are the records'

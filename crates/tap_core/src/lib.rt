@@ -5,7 +5,7 @@
 mod answer;
 // the stream of the connection, and the load of it
 mod download;
-// what is kept of the records up to the one that asks for the connection
+// the fragments in front of that segment
 mod early;
 // how a download ends
 mod ends;
@@ -25,7 +25,7 @@ mod packets;
 mod passive;
 // how far a tap is
 mod stages;
-// how many records each station sent up to that one
+// how many records each station sent in front of it
 mod tally;
 // the tap that hears record by record
 mod tapping;
@@ -33,8 +33,6 @@ mod tapping;
 mod telling;
 #[cfg(test)]
 mod tests;
-// the pools that are left open to single stations
-mod views;
 
 pub use ends::End;
 pub use laws::{

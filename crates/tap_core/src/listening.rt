@@ -5,7 +5,7 @@ ghost use Rattle.tcp_recv.specs.Stream.{Board};
 ghost use Rattle.tap_core.specs.Answering.{accepting_number};
 ghost use Rattle.tap_core.specs.Connections.{after_heard, is_reset_at};
 ghost use Rattle.tap_core.specs.Counting.{Tallies};
-ghost use Rattle.tap_core.specs.Early.{KeepsPools};
+ghost use Rattle.tap_core.specs.Early.{KeepsFragments};
 ghost use Rattle.tap_core.specs.Following.{Follows};
 ghost use Rattle.tap_core.specs.Hearing.{heard_at, pools_from};
 ghost use Rattle.tap_core.specs.Seen.{syn_seen};
@@ -13,7 +13,7 @@ ghost use Rattle.tap_core.specs.Tapping.{Listens};
 
 use crate::answer::answer_at;
 use crate::download::Download;
-use crate::early::Early;
+use crate::early::Fragments;
 use crate::follow::take_in;
 use crate::opening::Syn;
 use crate::tally::Tally;
@@ -22,7 +22,7 @@ use efi_base::{NoMemory, Record};
 use ip_core::Reasm;
 use std::alloc::Global;
 
-/// What the records so far leave: the pools that are open to the station, and the counts.
+/// What the records so far leave: the fragments that the station heard, and the counts.
 #[derive(Drop)]
 pub struct Listener {
     pub syn: Syn,
@@ -31,15 +31,18 @@ pub struct Listener {
 }
 
 /// The station that this segment shows, by what stands for the records that it has heard.
-pub fn listen(syn: Syn, early: Early, tally: &Tally) -> Listener
-    ensures syn { result.syn ≡ syn }
-    ensures listens { (records : List Record) → KeepsPools records early → Tallies records tally.now → Listens records result }
+pub fn listen(
+    alloc: Global,
+    syn: Syn,
+    early: &Fragments,
+    tally: &Tally,
+) -> Result<Listener, NoMemory>
+    ensures syn { IfOk result (λ l. l.syn ≡ syn) }
+    ensures listens { (records : List Record) → KeepsFragments records early.now → Tallies records tally.now → IfOk result (Listens records) }
 {
-    Listener {
-        syn,
-        reasm: early.into_pools(syn.station),
-        counts: tally.counts(syn.station),
-    }
+    let reasm = early.pools(alloc, &syn)?;
+    let counts = tally.counts(syn.station);
+    Ok(Listener { syn, reasm, counts })
 }
 
 /// Hears a record, and answers the number of the segment that accepts the connection.

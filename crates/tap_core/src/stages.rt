@@ -8,7 +8,7 @@ ghost use Rattle.tap_core.specs.declared.ends.End.TheVariants.{NoConnection};
 ghost use Rattle.tap_core.specs.declared.stages.Stage.TheVariants.{Broken};
 
 use crate::download::Download;
-use crate::early::Early;
+use crate::early::Fragments;
 use crate::ends::End;
 use crate::listening::{Listener, hear_answer, hear_segment, listen};
 use crate::opening::asked_at;
@@ -24,7 +24,7 @@ use std::alloc::Global;
 #[derive(Drop)]
 pub struct Waiting {
     reasm: Reasm,
-    early: Early,
+    early: Fragments,
     tally: Tally,
 }
 
@@ -48,7 +48,7 @@ pub fn first_stage(alloc: Global) -> Result<Stage, NoMemory>
     ensures { IfOk result (λ s. (most : ℕ) → StandsFor most [] s) }
 {
     let reasm = Reasm::new(alloc)?;
-    let early = Early::new(alloc)?;
+    let early = Fragments::new(alloc);
     let tally = Tally::new(alloc);
     Ok(Stage::Opening(Waiting {
         reasm,
@@ -63,7 +63,7 @@ pub fn next_stage(alloc: Global, most: u32, stage: Stage, record: Record) -> Res
     ensures broken { stage ≡ Broken → IsErr result }
 {
     match stage {
-        Stage::Opening(waiting) => hear_first(alloc, waiting, &record),
+        Stage::Opening(waiting) => hear_first(alloc, waiting, record),
         Stage::Answering(listener) => hear_second(alloc, most, listener, &record),
         Stage::Following(listener, download) => hear_more(listener, download, &record),
         Stage::Ended(seen) => Ok(Stage::Ended(seen)),
@@ -72,17 +72,17 @@ pub fn next_stage(alloc: Global, most: u32, stage: Stage, record: Record) -> Res
 }
 
 /// A record before which none asks for a connection.
-fn hear_first(alloc: Global, waiting: Waiting, record: &Record) -> Result<Stage, NoMemory>
-    ensures { (most : ℕ) (records : List Record) → IsWaiting records waiting → IfOk result (StandsFor most (records ++ «record».now ∷ [])) }
+fn hear_first(alloc: Global, waiting: Waiting, record: Record) -> Result<Stage, NoMemory>
+    ensures { (most : ℕ) (records : List Record) → IsWaiting records waiting → IfOk result (StandsFor most (records ++ «record» ∷ [])) }
 {
     let Waiting {
         mut reasm,
         mut early,
         mut tally,
     } = waiting;
-    let asked = asked_at(&mut reasm, record);
-    tally.count(record)?;
-    early.hear(alloc, record)?;
+    let asked = asked_at(&mut reasm, &record);
+    tally.count(&record)?;
+    early.hear(record)?;
     let Some(syn) = asked else {
         return Ok(Stage::Opening(Waiting {
             reasm,
@@ -90,7 +90,7 @@ fn hear_first(alloc: Global, waiting: Waiting, record: &Record) -> Result<Stage,
             tally,
         }));
     };
-    let listener = listen(syn, early, &tally);
+    let listener = listen(alloc, syn, &early, &tally)?;
     Ok(Stage::Answering(listener))
 }
 

@@ -1,6 +1,6 @@
 //! A tap on the station's link: it hears the records of a capture one after the other, and tells at the end what they show
-//! of their first connection. It keeps none of them: up to the one that asks for a connection, pools and counts stand for them,
-//! whichever station that one shows.
+//! of their first connection. It keeps no list of them: in front of the segment that asks for a connection it keeps fragments
+//! whose datagrams may not be whole, and a count for each sender.
 ghost use Rattle.std.specs.Prelude.{◌≡◌, ◌∷◌, ◌++◌, [], ℕ, List, None, false, IfOk, IsErr, OnErr, OnOk};
 ghost use Rattle.efi_base.specs.declared.plain.Record.{Record};
 ghost use Rattle.tap_core.specs.declared.ends.End.TheVariants.{NoConnection};

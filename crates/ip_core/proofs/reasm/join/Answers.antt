@@ -1,7 +1,6 @@
 use Rattle.std.proofs.Common.{◌++◌, ◌∷◌, sym, ap, ◌∙◌, [], is_ok, arith}
 use Rattle.wire_ip4.specs.Seen.{packet_seen}
-use Rattle.ip_core.proofs.Full.{within}
-use Rattle.ip_core.proofs.Joining.{join-found, join-full, join-new, blank, pushed}
+use Rattle.ip_core.proofs.Joining.{join-found, join-full, join-new, within, blank, pushed}
 use Rattle.ip_core.proofs.reasm.join.Goals as goal
 
 pub returns-in-Some-clause-bytes : goal.returns-in-Some-clause-bytes

@@ -13,7 +13,7 @@ use Rattle.tap_core.proofs.stages.hear_first.Goals as goal
 
 pub returns-in_default : goal.returns-in_default
 returns-in_default c = λ most records w.
-    let r = c.args.«record».now in
+    let r = c.args.«record» in
     record {
       none = asked-none records r w.none (ap (λ p. opening_at r (event_datagram bytes_kept p (event_of any_packet r))) (sym w.pools)
           ∙ sym c.asked_at-asked.ensures.asked ∙ ap (option_map syn_seen) c.in_default.is);
@@ -24,9 +24,9 @@ returns-in_default c = λ most records w.
 
 pub returns : goal.returns
 returns c = λ most records w.
-    let r = c.args.«record».now in
-    let l = c.listen-listener in
-    answering-first records r l.result (syn_seen c.in-Some.syn) (ap syn_seen l.ensures.syn) w.none
+    let r = c.args.«record» in
+    let l = c.in_ok-listener in
+    answering-first records r l.listener (syn_seen c.in-Some.syn) (ap syn_seen l.ensures.syn) w.none
     (ap (λ p. opening_at r (event_datagram bytes_kept p (event_of any_packet r))) (sym w.pools)
     ∙ sym c.asked_at-asked.ensures.asked ∙ ap (option_map syn_seen) c.in-Some.is)
     (l.ensures.listens (records ++ r ∷ []) (c.in_ok-hear.ensures records w.early) (c.in_ok-count.ensures records w.tally))

@@ -6,7 +6,7 @@ use Rattle.std.proofs.lemmas.List.{with_items_is}
 use Rattle.efi_window.proofs.Parts.{put-window, part-length, part-some, part-none}
 use Rattle.efi_window.proofs.Rounds.{placed-as}
 use Rattle.efi_window.proofs.Words.{same-longer, kept-longer}
-use Rattle.efi_window.proofs.Cells.{slots-put, slots-longer, free-put}
+use Rattle.efi_window.proofs.Cells.{slots-put, slots-longer, free-put, last-put}
 use Rattle.efi_window.proofs.by_place.Window.put.Goals as goal
 
 pub lengthen-requires-then-not-is_empty : goal.lengthen-requires-then-not-is_empty
@@ -50,6 +50,10 @@ invariant_of-self c =
       origin = c.self.invariant.origin;
       free = λ i h k. ap (λ w. is_kept w ((base + i) % c.self.inside.room)) bits ∙ free-put base at c.self.inside.room c.within-bytes.result.now c.lengthen.new.list.items c.lengthen-then-not-is_empty.new.list.items
           c.put.new.ring c.put.new.words order within p c.self.inside.span i free (omega (arith, c.max-self-inside.ensures)) k;
+      last = λ _. ap (λ w. is_kept w ((base + (c.max-self-inside.result - 1)) % c.self.inside.room)) bits
+          ∙ ap (λ n. is_kept c.put.new.words ((base + (n - 1)) % c.self.inside.room)) (omega (arith, c.max-self-inside.ensures, ahead))
+          ∙ last-put base at c.self.inside.room c.self.inside.span c.within-bytes.result.now c.lengthen.new.list.items c.lengthen-then-not-is_empty.new.list.items
+          c.put.new.ring c.put.new.words order some p (λ l. more _ ∙ c.self.invariant.last l);
     }
 
 pub returns-then-not-is_empty : goal.returns-then-not-is_empty

@@ -1,6 +1,6 @@
 use Rattle.std.proofs.Common.{inl, inr, ◌∙◌, ◌≡◌, ◌+◌, ◌-◌, ◌%◌, ◌<◌, ◌≤◌, ℕ, true, length, get_or, ap, sym, arith}
 use Rattle.efi_window.specs.Kept.{is_kept, slots}
-use Rattle.efi_window.proofs.Cells.{ready-slots, taken-bytes, slots-moved, free-moved}
+use Rattle.efi_window.proofs.Cells.{ready-slots, taken-bytes, slots-moved, free-moved, last-moved}
 use Rattle.efi_window.proofs.Parts.{taken-window}
 use Rattle.efi_window.proofs.Rounds.{up-to}
 use Rattle.std.proofs.lemmas.Bool.{cases_lt}
@@ -39,6 +39,9 @@ invariant_of-self c =
       free = λ i h k. ap (λ w. is_kept w ((to + i) % c.self.inside.room)) bits
           ∙ free-moved c.self.inside.room c.self.inside.words.items c.free.new.words base to c.min-count.result c.self.inside.span i
           count span c.self.invariant.free c.free.ensures.freed others moved h k;
+      last = λ l. ap (λ w. is_kept w ((to + (c.self.inside.span - c.min-count.result - 1)) % c.self.inside.room)) bits
+          ∙ last-moved c.self.inside.room c.self.inside.words.items c.free.new.words base to c.min-count.result c.self.inside.span
+          span others c.self.invariant.last l (moved l);
     }
 
 pub copy-requires-clause-enough : goal.copy-requires-clause-enough

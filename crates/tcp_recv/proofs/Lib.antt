@@ -1,3 +1,4 @@
 pub mod Boards
 pub mod Peers
 pub mod Standing
+pub mod Courses

@@ -129,7 +129,7 @@ after-placed irs cap taken stream board cut b p =
     (λ f. counted-end cap taken (put t (take n cut.bytes) board.kept) board.end (t + length cut.bytes) stream b.1 (p.fin f)) in
     (kept, end)
 
-after-one : (irs cap taken : ℕ) (stream : List ℕ) (board : Board) (cut : Cut) → length stream < 2 ^ 31 → IsOf stream board → IsPart irs stream cut
+pub after-one : (irs cap taken : ℕ) (stream : List ℕ) (board : Board) (cut : Cut) → length stream < 2 ^ 31 → IsOf stream board → IsPart irs stream cut
     → IsOf stream (after_cut irs cap taken board cut)
 unfolding after_cut
 after-one irs cap taken stream board cut h b p =
@@ -151,7 +151,7 @@ whole-at kept (Some end) stream rest e f w =
     let none : rest ≡ [] = nil_from_length rest (omega (arith, length-append (front kept) rest, ap length f, e)) in
     sym (f ∙ ap (λ l. front kept ++ l) none ∙ append-nil (front kept))
 
-of-front : (stream : List ℕ) (board : Board) → IsOf stream board → IsFrontOf stream board
+pub of-front : (stream : List ℕ) (board : Board) → IsOf stream board → IsFrontOf stream board
 of-front stream board b =
     let r = agrees-front board.kept stream b.0 in
     record { rest = r.0; front_is = r.1; whole = whole-at board.kept board.end stream r.0 b.1 r.1 }

@@ -9,7 +9,7 @@ mod placing;
 // the receiver
 mod receiver;
 
-pub use laws::{accepted_is_front, places_are_true};
+pub use laws::{accepted_is_front, places_are_true, receiver_tells, steps_give_front};
 pub use receiver::Recv;
 
 #[cfg(test)]

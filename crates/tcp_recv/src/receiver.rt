@@ -1,6 +1,8 @@
 //! The receiver.
-ghost use Rattle.std.specs.Prelude.{◌≡◌, ◌+◌, ◌-◌, ◌^◌, ◌≤◌, ◌++◌, ℕ, true, false, [], List, min, length, take, drop, IfOk};
+ghost use Rattle.std.specs.Prelude.{◌≡◌, ◌+◌, ◌-◌, ◌^◌, ◌≤◌, ◌∷◌, ◌++◌, ℕ, true, false, [], List, min, length, take, drop, IfOk};
 ghost use Rattle.tcp_recv.specs.Receiver.{Receiver, fresh, untaken, accepted_of, is_ended, is_next, next_number, Stands};
+ghost use Rattle.tcp_recv.specs.Steps.{StandsFor, Step};
+ghost use Rattle.tcp_recv.specs.Steps.Step.{hears, takes};
 ghost use Rattle.tcp_recv.specs.Stream.{Board, Cut, after_cut, front};
 
 use crate::placing::{END_OF_PLACES, before_end, end_with, spot_of};
@@ -65,6 +67,8 @@ impl Recv {
     pub fn on_cut(&mut self, seq: u32, bytes: &[u8], fin: bool)
         ensures stands { (board : Board) → (given : List ℕ) → Stands board given self.old
             → Stands (after_cut self.old.irs self.old.cap self.old.taken board (record { seq = seq; bytes = bytes.now; fin = fin })) given self.new }
+        ensures steps { (steps : List Step) → (given : List ℕ) → StandsFor steps given self.old
+            → StandsFor (steps ++ hears (record { seq = seq; bytes = bytes.now; fin = fin }) ∷ []) given self.new }
         ensures irs { self.new.irs ≡ self.old.irs }
         ensures room { self.new.room ≡ self.old.room }
         ensures cap { self.new.cap ≡ self.old.cap }
@@ -88,6 +92,9 @@ impl Recv {
         ensures stays { result ≡ false → self.new ≡ self.old }
         ensures stands { result ≡ true → (board : Board) → (given : List ℕ) → Stands board given self.old
             → Stands (after_cut self.old.irs self.old.cap self.old.taken board (record { seq = seq; bytes = bytes.now; fin = false }))
+            (given ++ bytes.now) self.new }
+        ensures steps { result ≡ true → (steps : List Step) → (given : List ℕ) → StandsFor steps given self.old
+            → StandsFor (steps ++ hears (record { seq = seq; bytes = bytes.now; fin = false }) ∷ takes (length bytes.now) ∷ [])
             (given ++ bytes.now) self.new }
         ensures bound { result ≡ true → self.new.taken ≤ 2 ^ 62 }
     {
@@ -117,6 +124,8 @@ impl Recv {
         ensures receiver { self.new ≡ record self.old { taken = self.old.taken + result; held = drop result self.old.held } }
         ensures stands { (board : Board) → (given : List ℕ) → Stands board given self.old
             → Stands board (given ++ take result (untaken self.old)) self.new }
+        ensures steps { (steps : List Step) → (given : List ℕ) → StandsFor steps given self.old
+            → StandsFor (steps ++ takes result ∷ []) (given ++ take result (untaken self.old)) self.new }
         ensures joined { (board : Board) → (given : List ℕ) → Stands board given self.old
             → front board.kept ≡ given ++ untaken self.old }
         ensures bound { self.old.taken + length (untaken self.old) ≤ 2 ^ 62 }

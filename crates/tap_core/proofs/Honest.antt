@@ -11,8 +11,8 @@ use Rattle.tcp_recv.specs.Peer.{IsPart, Heard, IsFrontOf}
 use Rattle.tcp_recv.specs.Receiver.{ends_at}
 use Rattle.tcp_recv.specs.Stream.{Board, empty, front, after_cut, is_over}
 use Rattle.tcp_recv.proofs.Peers.{heard-front}
-use Rattle.tap_core.specs.declared.ends.End.{End}
-use Rattle.tap_core.specs.declared.ends.End.TheVariants.{Success, OutOfTime, NoConnection}
+use Rattle.efi_base.specs.declared.load_end.LoadEnd.{LoadEnd}
+use Rattle.efi_base.specs.declared.load_end.LoadEnd.TheVariants.{Success, OutOfTime, NoConnection}
 use Rattle.tap_core.specs.Connections.{tap_window, after_segment, after_heard, board_after, is_reset_at}
 use Rattle.tap_core.specs.Ends.{MeetsOf, EndsBehind, MeetNothing}
 use Rattle.tap_core.specs.Openings.{Opening}
@@ -98,7 +98,7 @@ success-met most irs heard s =
 success-at : (most irs : ℕ) (heard : List (Option Segment)) (s : Succeeds most irs heard) → MeetsAt most irs (board_after irs s.before) s.last
 success-at most irs heard s = (Success (length s.body), success-met most irs heard s)
 
-succeeds-end : (most irs : ℕ) (heard before : List (Option Segment)) (last : Option Segment) (end : End) (s : Succeeds most irs heard)
+succeeds-end : (most irs : ℕ) (heard before : List (Option Segment)) (last : Option Segment) (end : LoadEnd) (s : Succeeds most irs heard)
     → EndsBehind most irs heard before last end → end ≡ Success (length s.body)
 succeeds-end most irs heard before last end s e =
     let same = ends-split most irs empty s.before before s.last last s.after e.after s.nothing e.nothing (success-at most irs heard s)

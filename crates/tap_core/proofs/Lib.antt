@@ -5,6 +5,7 @@ pub mod Kept
 pub mod OneEnd
 pub mod OneThing
 pub mod Records
+pub mod Something
 pub mod Splits
 pub mod Steps
 pub mod Streams

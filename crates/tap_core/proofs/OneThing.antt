@@ -3,8 +3,8 @@ use Rattle.std.proofs.Common.{◌≡◌, ◌⊎◌, ℕ, ◌+◌, suc, List, [],
 use Rattle.efi_base.specs.declared.plain.Record.{Record}
 use Rattle.wire_l4.specs.Segment.{Segment}
 use Rattle.tcp_recv.specs.Stream.{Board, empty}
-use Rattle.tap_core.specs.declared.ends.End.{End}
-use Rattle.tap_core.specs.declared.ends.End.TheVariants.{OutOfTime, NoConnection}
+use Rattle.efi_base.specs.declared.load_end.LoadEnd.{LoadEnd}
+use Rattle.efi_base.specs.declared.load_end.LoadEnd.TheVariants.{OutOfTime, NoConnection}
 use Rattle.tap_core.specs.Connections.{after_heard, board_after, is_reset_at}
 use Rattle.tap_core.specs.Ends.{EndsBehind, MeetNothing}
 use Rattle.tap_core.specs.Openings.{Opening, openings_of}
@@ -13,12 +13,12 @@ use Rattle.tap_core.proofs.OneEnd.{MeetsAt, end-one, ends-split, nothing-meets}
 use Rattle.tap_core.proofs.Splits.{opening-one, opening-none, connection-one, connection-none}
 
 -- the record at which a download ends meets a case
-pub meets-at : (most irs : ℕ) (heard before : List (Option Segment)) (last : Option Segment) (end : End) → EndsBehind most irs heard before last end
+pub meets-at : (most irs : ℕ) (heard before : List (Option Segment)) (last : Option Segment) (end : LoadEnd) → EndsBehind most irs heard before last end
     → MeetsAt most irs (board_after irs before) last
 meets-at most irs heard before last end e = (end, e.first.0)
 
 -- a download ends at one record, with one case
-ending-one : (most irs : ℕ) (heard b c : List (Option Segment)) (x y : Option Segment) (e f : End) → EndsBehind most irs heard b x e → EndsBehind most irs heard c y f
+ending-one : (most irs : ℕ) (heard b c : List (Option Segment)) (x y : Option Segment) (e f : LoadEnd) → EndsBehind most irs heard b x e → EndsBehind most irs heard c y f
     → (b ≡ c) × (x ≡ y) × (e ≡ f)
 ending-one most irs heard b c x y e f p q =
     let same = ends-split most irs empty b c x y p.after q.after p.nothing q.nothing (meets-at most irs heard b x e p) (meets-at most irs heard c y f q)
@@ -28,23 +28,23 @@ ending-one most irs heard b c x y e f p q =
     (same.0, same.1, end-one most (after_heard irs (board_after irs b) x) (is_reset_at irs (board_after irs b) x) e f p.first other.first)
 
 -- the same where the two connections are the same
-ending-same : (most irs jrs : ℕ) (heard others b c : List (Option Segment)) (x y : Option Segment) (e f : End) → irs ≡ jrs → heard ≡ others
+ending-same : (most irs jrs : ℕ) (heard others b c : List (Option Segment)) (x y : Option Segment) (e f : LoadEnd) → irs ≡ jrs → heard ≡ others
     → EndsBehind most irs heard b x e → EndsBehind most jrs others c y f → (b ≡ c) × (x ≡ y) × (e ≡ f)
 ending-same most irs jrs heard others b c x y e f i h p q =
     ending-one most irs heard b c x y e f p
     (subst (λ z. EndsBehind most irs z c y f) (sym h) (subst (λ z. EndsBehind most z others c y f) (sym i) q))
 
 -- a download that ends doesn't go on
-pub ends-or-not : (most irs jrs : ℕ) (heard others b : List (Option Segment)) (x : Option Segment) (e : End) → irs ≡ jrs → heard ≡ others → EndsBehind most irs heard b x e
+pub ends-or-not : (most irs jrs : ℕ) (heard others b : List (Option Segment)) (x : Option Segment) (e : LoadEnd) → irs ≡ jrs → heard ≡ others → EndsBehind most irs heard b x e
     → MeetNothing most jrs empty others → ⊥
 ends-or-not most irs jrs heard others b x e i h p none =
     let nothing = subst (λ z. MeetNothing most z empty heard) (sym i) (subst (λ z. MeetNothing most jrs empty z) (sym h) none) in
     nothing-meets most irs empty b x p.after (subst (MeetNothing most irs empty) p.parts nothing) (meets-at most irs heard b x e p)
 
-abbrev telling-of : End → Option Opening → Board → List Record → Telling
+abbrev telling-of : LoadEnd → Option Opening → Board → List Record → Telling
 telling-of end opening board upto = record { end = end; opening = opening; board = board; upto = upto }
 
-telling-one : (e f : End) (o p : Opening) (irs jrs n m : ℕ) (heard others : List (Option Segment)) (records : List Record) → e ≡ f → o ≡ p → irs ≡ jrs → heard ≡ others → n ≡ m
+telling-one : (e f : LoadEnd) (o p : Opening) (irs jrs n m : ℕ) (heard others : List (Option Segment)) (records : List Record) → e ≡ f → o ≡ p → irs ≡ jrs → heard ≡ others → n ≡ m
     → telling-of e (Some o) (board_after irs heard) (take n records) ≡ telling-of f (Some p) (board_after jrs others) (take m records)
 telling-one e f o p irs jrs n m heard others records a b c d g =
     ap (λ z. telling-of z (Some o) (board_after irs heard) (take n records)) a

@@ -4,7 +4,7 @@ use Rattle.efi_base.specs.declared.plain.Record.{Record}
 use Rattle.wire_l4.specs.Segment.{Segment}
 use Rattle.tcp_recv.specs.Stream.{Board, empty}
 use Rattle.tap_core.specs.declared.download.Download.{Download}
-use Rattle.tap_core.specs.declared.ends.End.{End}
+use Rattle.efi_base.specs.declared.load_end.LoadEnd.{LoadEnd}
 use Rattle.tap_core.specs.declared.listening.Listener.{Listener}
 use Rattle.tap_core.specs.declared.opening.Syn.{Syn}
 use Rattle.tap_core.specs.declared.passive.Seen.{Seen}
@@ -63,7 +63,7 @@ following-first most records r l l' irs d e a there listens follows room =
     }
 
 -- the first case that the next record meets
-first-here : (most irs : ℕ) (board : Board) (h : Option Segment) (reset : Bool) (end : Option End) → reset ≡ is_reset_at irs board h
+first-here : (most irs : ℕ) (board : Board) (h : Option Segment) (reset : Bool) (end : Option LoadEnd) → reset ≡ is_reset_at irs board h
     → IsFirstEnd most (after_heard irs board h) reset end → IsFirstEndAt most irs board h end
 first-here most irs board h reset end e first = subst (λ b. IsFirstEnd most (after_heard irs board h) b end) e first
 
@@ -92,7 +92,7 @@ following-next most records r l l' d d' reset e f step first room listens =
     }
 
 -- it does
-pub ended-first : (most : ℕ) (records : List Record) (r : Record) (l l' : Listener) (d d' : Download) (reset : Bool) (end : End) (s : Seen) → l'.syn ≡ l.syn
+pub ended-first : (most : ℕ) (records : List Record) (r : Record) (l l' : Listener) (d d' : Download) (reset : Bool) (end : LoadEnd) (s : Seen) → l'.syn ≡ l.syn
     → (f : IsFollowing most records l d)
     → (reset ≡ is_reset_at f.irs (board_after f.irs f.heard) (heard_next (syn_seen l.syn) records r))
     × Follows most f.irs (after_heard f.irs (board_after f.irs f.heard) (heard_next (syn_seen l.syn) records r)) d'

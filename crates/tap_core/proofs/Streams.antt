@@ -10,8 +10,8 @@ use Rattle.load_core.specs.Met.{Meets, IsFirst, case_place}
 use Rattle.load_core.specs.declared.met.Met.{Met}
 use Rattle.load_core.specs.declared.met.Met.TheVariants as met
 use Rattle.load_core.specs.Taken.{HasTaken}
-use Rattle.tap_core.specs.declared.ends.End.{End}
-use Rattle.tap_core.specs.declared.ends.End.TheVariants.{Success, BadResponse, HttpStatus, Coding, BufferTooSmall, Truncated, Reset, OutOfTime, NoConnection}
+use Rattle.efi_base.specs.declared.load_end.LoadEnd.{LoadEnd}
+use Rattle.efi_base.specs.declared.load_end.LoadEnd.TheVariants.{Success, BadResponse, HttpStatus, Coding, BufferTooSmall, Truncated, Reset}
 use Rattle.tap_core.specs.declared.download.Download.{Download}
 use Rattle.tap_core.specs.Connections.{tap_window, after_segment, after_heard, board_after, is_reset}
 use Rattle.tap_core.specs.Ends.{MeetsOf, order, IsFirstEnd, IsFirstEndAt, MeetNothing, end_of, end_without}
@@ -111,7 +111,7 @@ met-of most board reset (met.BufferTooSmall n) len h is_len = h
 
 first-of : (most : ℕ) (board : Board) (reset : Bool) (m : Met) (len : ℕ)
     → ((other : Met) → Meets most (front board.kept) (is_over board) other → IsFirst m other)
-    → (case : End) → MeetsOf most board reset case → order (end_of m len) ≤ order case
+    → (case : LoadEnd) → MeetsOf most board reset case → order (end_of m len) ≤ order case
 first-of most board reset m len first (Success n) h = order-le m met.Success len (first met.Success (h.0, h.1, h.3))
 first-of most board reset m len first (BadResponse part) h = order-le m (met.BadResponse part) len (first (met.BadResponse part) h)
 first-of most board reset m len first (HttpStatus s) h = order-le m (met.HttpStatus s) len (first (met.HttpStatus s) h)
@@ -119,8 +119,7 @@ first-of most board reset m len first (Coding field) h = order-le m (met.Coding 
 first-of most board reset m len first (BufferTooSmall n) h = order-le m (met.BufferTooSmall n) len (first (met.BufferTooSmall n) h)
 first-of most board reset m len first (Truncated n) h = omega (arith, order-early m len)
 first-of most board reset m len first Reset h = omega (arith, order-early m len)
-first-of most board reset m len first OutOfTime h = absurd h
-first-of most board reset m len first NoConnection h = absurd h
+first-of most board reset m len first other h = absurd h
 
 -- a case of the response is the first one
 pub end-met : (most : ℕ) (board : Board) (reset : Bool) (m : Met) (len : ℕ) → Meets most (front board.kept) (is_over board) m
@@ -131,7 +130,7 @@ end-met most board reset m len h first is_len = (met-of most board reset m len h
 
 -- the response meets no case
 late-of : (most : ℕ) (board : Board) (reset : Bool) → ((other : Met) → ¬ (Meets most (front board.kept) (is_over board) other))
-    → (case : End) → MeetsOf most board reset case → 5 ≤ order case
+    → (case : LoadEnd) → MeetsOf most board reset case → 5 ≤ order case
 late-of most board reset none (Success n) h = absurd (none met.Success (h.0, h.1, h.3))
 late-of most board reset none (BadResponse part) h = absurd (none (met.BadResponse part) h)
 late-of most board reset none (HttpStatus s) h = absurd (none (met.HttpStatus s) h)
@@ -139,14 +138,13 @@ late-of most board reset none (Coding field) h = absurd (none (met.Coding field)
 late-of most board reset none (BufferTooSmall n) h = absurd (none (met.BufferTooSmall n) h)
 late-of most board reset none (Truncated n) h = omega arith
 late-of most board reset none Reset h = omega arith
-late-of most board reset none OutOfTime h = absurd h
-late-of most board reset none NoConnection h = absurd h
+late-of most board reset none other h = absurd h
 
 not-both : (b : Bool) → b ≡ true → b ≡ false → ⊥
 not-both b t f = let both : true ≡ false = sym t ∙ f in absurd (cc)
 
 later-of : (most : ℕ) (board : Board) (reset : Bool) → is_over board ≡ false → ((other : Met) → ¬ (Meets most (front board.kept) (is_over board) other))
-    → (case : End) → MeetsOf most board reset case → (6 ≤ order case) × (reset ≡ true)
+    → (case : LoadEnd) → MeetsOf most board reset case → (6 ≤ order case) × (reset ≡ true)
 later-of most board reset over none (Success n) h = absurd (none met.Success (h.0, h.1, h.3))
 later-of most board reset over none (BadResponse part) h = absurd (none (met.BadResponse part) h)
 later-of most board reset over none (HttpStatus s) h = absurd (none (met.HttpStatus s) h)
@@ -154,8 +152,7 @@ later-of most board reset over none (Coding field) h = absurd (none (met.Coding 
 later-of most board reset over none (BufferTooSmall n) h = absurd (none (met.BufferTooSmall n) h)
 later-of most board reset over none (Truncated n) h = absurd (not-both (is_over board) h.0 over)
 later-of most board reset over none Reset h = (omega arith, h)
-later-of most board reset over none OutOfTime h = absurd h
-later-of most board reset over none NoConnection h = absurd h
+later-of most board reset over none other h = absurd h
 
 -- the case is the stream's end, or the reset, or there is none
 pub end-late : (most : ℕ) (board : Board) (reset over : Bool) (accepted : ℕ) → is_over board ≡ over → accepted ≡ length (front board.kept)

@@ -6,8 +6,8 @@ use Rattle.std.proofs.lemmas.List.Elements.{All-append, All-cons, All-nil}
 use Rattle.efi_base.specs.declared.plain.Record.{Record}
 use Rattle.wire_l4.specs.Segment.{Segment}
 use Rattle.tcp_recv.specs.Stream.{Board, empty}
-use Rattle.tap_core.specs.declared.ends.End.{End}
-use Rattle.tap_core.specs.declared.ends.End.TheVariants.{OutOfTime, NoConnection}
+use Rattle.efi_base.specs.declared.load_end.LoadEnd.{LoadEnd}
+use Rattle.efi_base.specs.declared.load_end.LoadEnd.TheVariants.{OutOfTime, NoConnection}
 use Rattle.tap_core.specs.declared.passive.Seen.{Seen}
 use Rattle.tap_core.specs.Answering.{accepting_number}
 use Rattle.tap_core.specs.Connections.{Connects, accepts_at, board_after}
@@ -125,7 +125,7 @@ connection-length records o irs place heard c =
     length-drop (suc c.at) (segments_heard o records) ∙ ap (λ n. n - suc c.at) (segments-length o records) in
     omega (arith, c.place_is, c.connects.place_is, ap length c.connects.parts, length-append c.connects.before (Some c.answer ∷ heard), count, within)
 
-ends-longer : (most irs : ℕ) (heard before more : List (Option Segment)) (last : Option Segment) (end : End) → EndsBehind most irs heard before last end
+ends-longer : (most irs : ℕ) (heard before more : List (Option Segment)) (last : Option Segment) (end : LoadEnd) → EndsBehind most irs heard before last end
     → EndsBehind most irs (heard ++ more) before last end
 ends-longer most irs heard before more last end e = record {
   after = e.after ++ more;
@@ -134,7 +134,7 @@ ends-longer most irs heard before more last end e = record {
   first = e.first;
 }
 
-abbrev telling-of : End → Option Opening → Board → List Record → Telling
+abbrev telling-of : LoadEnd → Option Opening → Board → List Record → Telling
 telling-of end opening board upto = record { end = end; opening = opening; board = board; upto = upto }
 
 -- a record behind the end changes nothing
@@ -165,7 +165,7 @@ take-whole : (n : ℕ) (l : List Record) → n ≡ length l → take n l ≡ l
 take-whole n l e = take_all n l (omega (arith, e))
 
 -- the download ends at the next record
-pub ends-here : (most : ℕ) (records : List Record) (r : Record) (o : Opening) (irs place : ℕ) (heard : List (Option Segment)) (end : End) (s : Seen)
+pub ends-here : (most : ℕ) (records : List Record) (r : Record) (o : Opening) (irs place : ℕ) (heard : List (Option Segment)) (end : LoadEnd) (s : Seen)
     → HasConnection records o irs place heard → MeetNothing most irs empty heard
     → IsFirstEndAt most irs (board_after irs heard) (heard_next o records r) (Some end)
     → IsSeenOf most (record { end = end; opening = Some o; board = board_after irs (heard ++ heard_next o records r ∷ []); upto = records ++ r ∷ [] }) s

@@ -2,7 +2,7 @@
 use Rattle.std.specs.Prelude.{◌≡◌, ℕ, ◌-◌, ⊤, Bool, not, List, length, filter, slice_get, Option, Some, None}
 use Rattle.std.specs.Option.{option_map_or}
 use Rattle.efi_base.specs.declared.plain.Record.{Record}
-use Rattle.tap_core.specs.declared.ends.End.{End}
+use Rattle.efi_base.specs.declared.load_end.LoadEnd.{LoadEnd}
 use Rattle.efi_base.specs.declared.plain.Peer.{Peer}
 use Rattle.tap_core.specs.declared.telling.Shown.{Shown}
 use Rattle.tap_core.specs.Frames.{is_sent}
@@ -39,7 +39,7 @@ IsPeer (Some o) (Some p) = (p.addr.0 ≡ o.dest) × (p.port ≡ o.dport)
 
 -- this is shown of an end, an opening, how many octets were accepted, whether the stream's end was reached, and the records
 -- up to the one at which it ended
-pub record Tells (end : End) (opening : Option Opening) (accepted : ℕ) (fin : Bool) (upto : List Record) (s : Shown) : Type 0 where
+pub record Tells (end : LoadEnd) (opening : Option Opening) (accepted : ℕ) (fin : Bool) (upto : List Record) (s : Shown) : Type 0 where
   pub end_is : s.end ≡ end
   pub peer_is : IsPeer opening s.peer
   pub accepted_is : s.accepted ≡ accepted

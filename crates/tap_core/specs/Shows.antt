@@ -3,8 +3,8 @@ use Rattle.std.specs.Prelude.{◌≡◌, ◌⊎◌, ℕ, suc, ◌+◌, false, Li
 use Rattle.efi_base.specs.declared.plain.Record.{Record}
 use Rattle.wire_l4.specs.Segment.{Segment}
 use Rattle.tcp_recv.specs.Stream.{Board, empty}
-use Rattle.tap_core.specs.declared.ends.End.{End}
-use Rattle.tap_core.specs.declared.ends.End.TheVariants.{OutOfTime, NoConnection}
+use Rattle.efi_base.specs.declared.load_end.LoadEnd.{LoadEnd}
+use Rattle.efi_base.specs.declared.load_end.LoadEnd.TheVariants.{OutOfTime, NoConnection}
 use Rattle.tap_core.specs.Connections.{Connects, accepts_at, board_after}
 use Rattle.tap_core.specs.Ends.{EndsBehind, MeetNothing}
 use Rattle.tap_core.specs.Heard.{segments_heard}
@@ -13,7 +13,7 @@ use Rattle.tap_core.specs.Openings.{Opening, openings_of, IsFirstAt}
 -- what is told: how the download ended, the opening of the connection if there is one, what is kept of the stream, and the
 -- records up to the one at which it ended
 pub record Telling : Type 0 where
-  pub end : End
+  pub end : LoadEnd
   pub opening : Option Opening
   pub board : Board
   pub upto : List Record
@@ -54,7 +54,7 @@ pub record ShowsEnd (most : ℕ) (records : List Record) (t : Telling) : Type 0 
   pub connection : HasConnection records opening irs place heard
   pub before : List (Option Segment)
   pub last : Option Segment
-  pub end : End
+  pub end : LoadEnd
   pub ends : EndsBehind most irs heard before last end
   pub told : t ≡ record { end = end; opening = Some opening; board = board_after irs (before ++ last ∷ []); upto = take (place + suc (length before)) records }
 

@@ -5,7 +5,7 @@ use Rattle.tcp_recv.specs.Stream.{front, is_over}
 use Rattle.wire_http.specs.Response.{IsWhole}
 use Rattle.load_core.specs.Met.{HasLoadSoFar, HasNoLoad}
 use Rattle.tap_core.specs.declared.passive.Seen.{Seen}
-use Rattle.tap_core.specs.declared.ends.End.TheVariants.{Success}
+use Rattle.efi_base.specs.declared.load_end.LoadEnd.TheVariants.{Success}
 use Rattle.tap_core.specs.Shown.{Tells}
 use Rattle.tap_core.specs.Shows.{Telling, Shows}
 

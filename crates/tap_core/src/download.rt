@@ -10,8 +10,8 @@ ghost use Rattle.tap_core.specs.Ends.{IsFirstEnd};
 ghost use Rattle.tap_core.specs.Following.{Carries, Follows};
 ghost use Rattle.tap_core.specs.Segments.{cut_of, has_fin, is_cut, resets};
 
-use crate::ends::{End, end_of, end_without};
-use efi_base::{Bytes, NoMemory};
+use crate::ends::{end_of, end_without};
+use efi_base::{Bytes, LoadEnd, NoMemory};
 use load_core::Load;
 use std::alloc::Global;
 use tcp_recv::Recv;
@@ -70,7 +70,7 @@ impl Download {
     }
 
     /// The first case that what is kept of the stream meets, where its last segment reset the connection or not.
-    pub fn end(&self, reset: bool) -> Option<End>
+    pub fn end(&self, reset: bool) -> Option<LoadEnd>
         ensures { (most irs : ℕ) (board : Board) → Follows most irs board self.now → IsFirstEnd most board reset result }
     {
         match self.load.met(self.recv.ended()) {

@@ -6,7 +6,7 @@ ghost use Rattle.tcp_recv.specs.Peer.{IsFrontOf};
 ghost use Rattle.tcp_recv.specs.Stream.{front, is_over};
 ghost use Rattle.wire_http.specs.Response.{IsWhole};
 ghost use Rattle.wire_l4.specs.Segment.{Segment};
-ghost use Rattle.tap_core.specs.declared.ends.End.TheVariants.{Success};
+ghost use Rattle.efi_base.specs.declared.load_end.LoadEnd.TheVariants.{Success};
 ghost use Rattle.tap_core.specs.Openings.{Opening};
 ghost use Rattle.tap_core.specs.Peers.{IsHonest, Succeeds};
 ghost use Rattle.tap_core.specs.Shows.{Telling, Shows, HasConnection};
@@ -14,6 +14,12 @@ ghost use Rattle.tap_core.specs.Shows.{Telling, Shows, HasConnection};
 /// A capture shows one thing: of two tellings of the same records, each is the other.
 pub fn shows_one_thing()
     ensures { (most : ℕ) → (records : List Record) → (t u : Telling) → Shows most records t → Shows most records u → t ≡ u }
+{}
+
+/// A capture shows something: there is none of which no telling is shown. (Which it is, a tap says; as a definition it isn't
+/// computed, so the law is a double negation.)
+pub fn shows_something()
+    ensures { (most : ℕ) → (records : List Record) → ¬ ((t : Telling) → ¬ (Shows most records t)) }
 {}
 
 /// Success is shown of a connection exactly where a record of it succeeds, with as many octets as the body has.

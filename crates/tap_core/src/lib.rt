@@ -7,7 +7,7 @@ mod answer;
 mod download;
 // the fragments in front of that segment
 mod early;
-// how a download ends
+// with which case a download ends
 mod ends;
 // what a record adds to a download
 mod follow;
@@ -34,9 +34,9 @@ mod telling;
 #[cfg(test)]
 mod tests;
 
-pub use ends::End;
 pub use laws::{
-    honest_body, honest_front, honest_success, shows_one_thing, succeeds_exactly, success_has_body,
+    honest_body, honest_front, honest_success, shows_one_thing, shows_something, succeeds_exactly,
+    success_has_body,
 };
 pub use passive::Seen;
 pub use tapping::Tap;

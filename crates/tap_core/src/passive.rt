@@ -8,12 +8,11 @@ ghost use Rattle.tap_core.specs.Seen.{syn_seen};
 ghost use Rattle.tap_core.specs.Watching.{IsSeenOf};
 
 use crate::download::Download;
-use crate::ends::End;
 use crate::opening::Syn;
 use crate::telling::{Counts, Shown, shown_with};
-use efi_base::Bytes;
+use efi_base::{Bytes, LoadEnd};
 
-/// What a capture shows, and the octets of the body as far as they came and fit: with `End::Success`, the body.
+/// What a capture shows, and the octets of the body as far as they came and fit: with `LoadEnd::Success`, the body.
 #[derive(Debug, Drop)]
 pub struct Seen {
     pub shown: Shown,
@@ -21,7 +20,7 @@ pub struct Seen {
 }
 
 /// What is seen of a download up to its end, with the counts of the records up to that.
-pub fn seen_of(download: Download, syn: &Syn, end: End, counts: Counts) -> Seen
+pub fn seen_of(download: Download, syn: &Syn, end: LoadEnd, counts: Counts) -> Seen
     ensures { (most irs : ℕ) (board : Board) (upto : List Record) → Follows most irs board download
         → Counted (Some (syn_seen syn.now)) upto counts
         → IsSeenOf most (record { end = end; opening = Some (syn_seen syn.now); board = board; upto = upto }) result }

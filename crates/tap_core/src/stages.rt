@@ -4,18 +4,17 @@ ghost use Rattle.efi_base.specs.declared.plain.Record.{Record};
 ghost use Rattle.tap_core.specs.Tapping.{IsAnswering, IsEnded, IsFollowing, IsWaiting, StandsFor};
 ghost use Rattle.tap_core.specs.Watching.{IsSeen};
 ghost use Rattle.tap_core.specs.Shown.{Tells};
-ghost use Rattle.tap_core.specs.declared.ends.End.TheVariants.{NoConnection};
+ghost use Rattle.efi_base.specs.declared.load_end.LoadEnd.TheVariants.{NoConnection};
 ghost use Rattle.tap_core.specs.declared.stages.Stage.TheVariants.{Broken};
 
 use crate::download::Download;
 use crate::early::Fragments;
-use crate::ends::End;
 use crate::listening::{Listener, hear_answer, hear_segment, listen};
 use crate::opening::asked_at;
 use crate::passive::{Seen, seen_of};
 use crate::tally::Tally;
 use crate::telling::{shown_with, shown_without};
-use efi_base::{Bytes, NoMemory, Record, Tick};
+use efi_base::{Bytes, LoadEnd, NoMemory, Record, Tick};
 use ip_core::Reasm;
 use std::alloc::Global;
 
@@ -132,19 +131,25 @@ pub fn seen_at(alloc: Global, stage: Stage) -> Seen
 {
     match stage {
         Stage::Opening(waiting) => Seen {
-            shown: waiting.tally.shown(End::NoConnection),
+            shown: waiting.tally.shown(LoadEnd::NoConnection),
             body: Bytes::new(alloc),
         },
         Stage::Answering(listener) => Seen {
-            shown: shown_with(&listener.syn, End::NoConnection, 0, false, listener.counts),
+            shown: shown_with(
+                &listener.syn,
+                LoadEnd::NoConnection,
+                0,
+                false,
+                listener.counts,
+            ),
             body: Bytes::new(alloc),
         },
         Stage::Following(listener, download) => {
-            seen_of(download, &listener.syn, End::OutOfTime, listener.counts)
+            seen_of(download, &listener.syn, LoadEnd::OutOfTime, listener.counts)
         }
         Stage::Ended(seen) => seen,
         Stage::Broken => Seen {
-            shown: shown_without(End::NoConnection, 0, Tick(0)),
+            shown: shown_without(LoadEnd::NoConnection, 0, Tick(0)),
             body: Bytes::new(alloc),
         },
     }

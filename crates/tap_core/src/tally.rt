@@ -6,9 +6,8 @@ ghost use Rattle.tap_core.specs.Counting.{Counted, Tallies, sent_of};
 ghost use Rattle.tap_core.specs.Openings.{Opening};
 ghost use Rattle.tap_core.specs.Shown.{Tells, sent_by};
 
-use crate::ends::End;
 use crate::telling::{Counts, Shown, one_more, shown_without};
-use efi_base::{Mac, NoMemory, Record, Tick};
+use efi_base::{LoadEnd, Mac, NoMemory, Record, Tick};
 use std::alloc::Global;
 use std::collections::BTreeMap;
 use wire_link::read_ether;
@@ -56,7 +55,7 @@ impl Tally {
     }
 
     /// What is shown where none of the records asks for a connection.
-    pub fn shown(&self, end: End) -> Shown
+    pub fn shown(&self, end: LoadEnd) -> Shown
         ensures { (records : List Record) → Tallies records self.now → Tells end None 0 false records result }
     {
         shown_without(end, self.all, self.tick)

@@ -3,7 +3,7 @@
 //! whose datagrams may not be whole, and a count for each sender.
 ghost use Rattle.std.specs.Prelude.{◌≡◌, ◌∷◌, ◌++◌, [], ℕ, List, None, false, IfOk, IsErr, OnErr, OnOk};
 ghost use Rattle.efi_base.specs.declared.plain.Record.{Record};
-ghost use Rattle.tap_core.specs.declared.ends.End.TheVariants.{NoConnection};
+ghost use Rattle.efi_base.specs.declared.load_end.LoadEnd.TheVariants.{NoConnection};
 ghost use Rattle.tap_core.specs.Shown.{Tells};
 ghost use Rattle.tap_core.specs.Tapping.{HasHeard, IsBroken};
 ghost use Rattle.tap_core.specs.Watching.{IsSeen};

@@ -6,10 +6,9 @@ ghost use Rattle.tap_core.specs.Openings.{Opening};
 ghost use Rattle.tap_core.specs.Seen.{syn_seen};
 ghost use Rattle.tap_core.specs.Shown.{Tells, last_tick};
 
-use crate::ends::End;
 use crate::opening::Syn;
 use crate::packets::is_sent;
-use efi_base::{Mac, NoMemory, Peer, Record, Tick};
+use efi_base::{LoadEnd, Mac, NoMemory, Peer, Record, Tick};
 
 /// What a capture shows of its first connection. The counts go up to the record at which the download ends.
 #[derive(Clone, Copy, PartialEq, Eq, Debug)]
@@ -19,7 +18,7 @@ pub struct Shown {
     pub accepted: u64,
     /// Whether the end of the stream was reached.
     pub fin: bool,
-    pub end: End,
+    pub end: LoadEnd,
     /// The tick of the record at which it ends.
     pub tick: Tick,
     pub sent: u64,
@@ -35,7 +34,7 @@ pub struct Counts {
 }
 
 /// What is shown of so many records where none asks for a connection, the last one at this tick.
-pub fn shown_without(end: End, heard: u64, tick: Tick) -> Shown
+pub fn shown_without(end: LoadEnd, heard: u64, tick: Tick) -> Shown
     ensures { (upto : List Record) → heard ≡ length upto → tick.0 ≡ last_tick upto → Tells end None 0 false upto result }
 {
     Shown {
@@ -50,7 +49,7 @@ pub fn shown_without(end: End, heard: u64, tick: Tick) -> Shown
 }
 
 /// What is shown of a connection, with so many octets accepted, by the counts of the records up to its end.
-pub fn shown_with(syn: &Syn, end: End, accepted: u64, fin: bool, counts: Counts) -> Shown
+pub fn shown_with(syn: &Syn, end: LoadEnd, accepted: u64, fin: bool, counts: Counts) -> Shown
     ensures { (upto : List Record) → Counted (Some (syn_seen syn.now)) upto counts
         → Tells end (Some (syn_seen syn.now)) accepted fin upto result }
 {

@@ -1,6 +1,6 @@
 //! What a tap tells of small captures, whose frames were made by another program.
-use crate::{End, Tap};
-use efi_base::{Bytes, Record, Tick};
+use crate::Tap;
+use efi_base::{Bytes, LoadEnd, Record, Tick};
 use std::alloc::Global;
 use std::process::Abort;
 use std::test::Fail;
@@ -72,13 +72,13 @@ fn hear(rt: &impl Abort, alloc: Global, tap: &mut Tap, tick: u32, frame: &str) -
 
 /// The records that a tap hears, each at a tick, and what it tells: how the download ends, how many octets of the stream were
 /// accepted, how many records the station sent and heard, and the body.
-type Case<'a> = (&'a [(u32, &'a str)], End, u64, u64, u64, &'a [u8]);
+type Case<'a> = (&'a [(u32, &'a str)], LoadEnd, u64, u64, u64, &'a [u8]);
 
 const CASES: [Case; 5] = [
     // a whole response, and records behind its end
     (
         &[(0, SYN), (2, ACCEPT), (4, WHOLE), (6, RESET), (8, SYN)],
-        End::Success(1),
+        LoadEnd::Success(1),
         39,
         1,
         2,
@@ -87,18 +87,18 @@ const CASES: [Case; 5] = [
     // a reset
     (
         &[(0, SYN), (2, ACCEPT), (4, RESET), (6, WHOLE)],
-        End::Reset,
+        LoadEnd::Reset,
         0,
         1,
         2,
         b"",
     ),
     // no answer
-    (&[(0, SYN), (2, WHOLE)], End::NoConnection, 0, 1, 1, b""),
+    (&[(0, SYN), (2, WHOLE)], LoadEnd::NoConnection, 0, 1, 1, b""),
     // a fragment in front, and the other at the end of its time
     (
         &[(0, ACCEPT_FRONT), (29_999, SYN), (29_999, ACCEPT_REST)],
-        End::OutOfTime,
+        LoadEnd::OutOfTime,
         0,
         1,
         2,
@@ -107,7 +107,7 @@ const CASES: [Case; 5] = [
     // and behind its time
     (
         &[(0, ACCEPT_FRONT), (30_000, SYN), (30_000, ACCEPT_REST)],
-        End::NoConnection,
+        LoadEnd::NoConnection,
         0,
         1,
         2,

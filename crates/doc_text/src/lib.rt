@@ -3,14 +3,14 @@
 
 // addresses as four numbers
 mod dotted;
-// what ends a download, and the word that tells it
-mod outcome;
+// how a download ends, and the word that tells it
+mod ends;
 // what a report tells
 mod report;
 // the text of a report
 mod writing;
 
-pub use outcome::{Outcome, What};
+pub use ends::{DownloadEnd, FileEnd, LoadWord};
 pub use report::{Leased, Report};
 pub use writing::report_text;
 

@@ -1,5 +1,5 @@
 //! What a report tells of a download. How it is written isn't here.
-use crate::outcome::Outcome;
+use crate::ends::DownloadEnd;
 use efi_base::{Bytes, Ip4, Peer, Tick};
 
 /// What the server lent: an address, and its mask as a number like the address.
@@ -23,7 +23,7 @@ pub struct Report {
     /// Whether the end of the stream was reached.
     pub fin: bool,
     /// How the download ended.
-    pub outcome: Outcome,
+    pub outcome: DownloadEnd,
     /// When it ended.
     pub tick: Tick,
     /// Records that the station sent.

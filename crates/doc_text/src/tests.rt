@@ -1,6 +1,7 @@
 //! Whole reports, and the word of each outcome.
-use crate::{Leased, Outcome, Report, What, report_text};
-use efi_base::{Bytes, CodingField, Ip4, Part, Peer, Tick};
+use crate::DownloadEnd::{File, Load};
+use crate::{DownloadEnd, FileEnd, Leased, Report, report_text};
+use efi_base::{Bytes, CodingField, Ip4, LoadEnd, Part, Peer, Tick, What};
 use std::process::Abort;
 use std::test::Fail;
 
@@ -12,7 +13,7 @@ struct Case {
     peer: Option<Peer>,
     accepted: u64,
     fin: bool,
-    outcome: Outcome,
+    outcome: DownloadEnd,
     counts: (u64, u64, u64),
     text: &'static str,
 }
@@ -30,7 +31,7 @@ const BOOT: Case = Case {
     }),
     accepted: 58,
     fin: true,
-    outcome: Outcome::Success(1),
+    outcome: Load(LoadEnd::Success(1)),
     counts: (10, 7, 5),
     text: "efiboot report 1\nlease 192.168.7.50 255.255.255.0\nuri http://192.168.7.1/im?age\npeer 192.168.7.1:80\n\
         accepted 58 fin\noutcome success 1\ntick 10 sent 7 heard 5\n",
@@ -46,7 +47,7 @@ const EXTRACT: Case = Case {
     }),
     accepted: 39,
     fin: false,
-    outcome: Outcome::Success(1),
+    outcome: Load(LoadEnd::Success(1)),
     counts: (4, 1, 2),
     text: "efiboot report 1\nlease -\nuri -\npeer 10.0.0.1:80\naccepted 39 open\noutcome success 1\ntick 4 sent 1 heard 2\n",
 };
@@ -58,7 +59,7 @@ const EMPTY: Case = Case {
     peer: None,
     accepted: 0,
     fin: false,
-    outcome: Outcome::NoConnection,
+    outcome: Load(LoadEnd::NoConnection),
     counts: (0, 0, 0),
     text: "efiboot report 1\nlease -\nuri -\npeer -\naccepted 0 open\noutcome no-connection\ntick 0 sent 0 heard 0\n",
 };
@@ -76,7 +77,7 @@ const LARGEST: Case = Case {
     }),
     accepted: 18_446_744_073_709_551_615,
     fin: true,
-    outcome: Outcome::NoOffer(4_294_967_295),
+    outcome: Load(LoadEnd::NoOffer(4_294_967_295)),
     counts: (
         18_446_744_073_709_551_615,
         18_446_744_073_709_551_615,
@@ -113,7 +114,11 @@ fn check<R: Abort + AllocGlobal>(rt: &R, case: &Case) -> Result<(), Fail> {
     Ok(())
 }
 
-fn check_word<R: Abort + AllocGlobal>(rt: &R, outcome: Outcome, word: &str) -> Result<(), Fail> {
+fn check_word<R: Abort + AllocGlobal>(
+    rt: &R,
+    outcome: DownloadEnd,
+    word: &str,
+) -> Result<(), Fail> {
     let text = outcome.to_string(rt.alloc())?;
     assert_eq!(rt; text.as_str(), word);
     Ok(())
@@ -130,39 +135,57 @@ fn writes_by_the_table(rt: HostRuntime) -> Result<(), Fail> {
 #[test]
 fn words_by_the_table(rt: HostRuntime) -> Result<(), Fail> {
     let cases = [
-        (Outcome::Success(0), "success 0"),
-        (Outcome::NoOffer(3), "no-offer 3"),
-        (Outcome::NoAck, "no-ack"),
-        (Outcome::Nak, "nak"),
-        (Outcome::BadUri, "bad-uri"),
-        (Outcome::Unsupported(What::Scheme), "unsupported scheme"),
-        (Outcome::Unsupported(What::Host), "unsupported host"),
-        (Outcome::NoDns, "no-dns"),
-        (Outcome::NameError(3), "name-error 3"),
-        (Outcome::NoAddress, "no-address"),
-        (Outcome::DnsTimeout, "dns-timeout"),
-        (Outcome::NoRoute, "no-route"),
-        (Outcome::NoMapping, "no-mapping"),
-        (Outcome::Refused, "refused"),
-        (Outcome::ConnectTimeout, "connect-timeout"),
-        (Outcome::SendTimeout, "send-timeout"),
-        (Outcome::Reset, "reset"),
-        (Outcome::Idle, "idle"),
-        (Outcome::Truncated(12), "truncated 12"),
-        (Outcome::BadResponse(Part::Head), "bad-response head"),
-        (Outcome::BadResponse(Part::Length), "bad-response length"),
-        (Outcome::BadResponse(Part::Chunk), "bad-response chunk"),
-        (Outcome::BadResponse(Part::Trailer), "bad-response trailer"),
-        (Outcome::HttpStatus(404), "http-status 404"),
-        (Outcome::Coding(CodingField::Content), "coding content"),
-        (Outcome::Coding(CodingField::Transfer), "coding transfer"),
-        (Outcome::BufferTooSmall(100), "buffer-too-small 100"),
-        (Outcome::OutOfTime, "out-of-time"),
-        (Outcome::Aborted, "aborted"),
-        (Outcome::NoConnection, "no-connection"),
-        (Outcome::TftpError(65535), "tftp-error 65535"),
-        (Outcome::TftpTimeout, "tftp-timeout"),
-        (Outcome::TooManyBlocks, "too-many-blocks"),
+        (Load(LoadEnd::Success(0)), "success 0"),
+        (Load(LoadEnd::NoOffer(3)), "no-offer 3"),
+        (Load(LoadEnd::NoAck), "no-ack"),
+        (Load(LoadEnd::Nak), "nak"),
+        (Load(LoadEnd::BadUri), "bad-uri"),
+        (
+            Load(LoadEnd::Unsupported(What::Scheme)),
+            "unsupported scheme",
+        ),
+        (Load(LoadEnd::Unsupported(What::Host)), "unsupported host"),
+        (Load(LoadEnd::NoDns), "no-dns"),
+        (Load(LoadEnd::NameError(3)), "name-error 3"),
+        (Load(LoadEnd::NoAddress), "no-address"),
+        (Load(LoadEnd::DnsTimeout), "dns-timeout"),
+        (Load(LoadEnd::NoRoute), "no-route"),
+        (Load(LoadEnd::NoMapping), "no-mapping"),
+        (Load(LoadEnd::Refused), "refused"),
+        (Load(LoadEnd::ConnectTimeout), "connect-timeout"),
+        (Load(LoadEnd::SendTimeout), "send-timeout"),
+        (Load(LoadEnd::Reset), "reset"),
+        (Load(LoadEnd::Idle), "idle"),
+        (Load(LoadEnd::Truncated(12)), "truncated 12"),
+        (Load(LoadEnd::BadResponse(Part::Head)), "bad-response head"),
+        (
+            Load(LoadEnd::BadResponse(Part::Length)),
+            "bad-response length",
+        ),
+        (
+            Load(LoadEnd::BadResponse(Part::Chunk)),
+            "bad-response chunk",
+        ),
+        (
+            Load(LoadEnd::BadResponse(Part::Trailer)),
+            "bad-response trailer",
+        ),
+        (Load(LoadEnd::HttpStatus(404)), "http-status 404"),
+        (
+            Load(LoadEnd::Coding(CodingField::Content)),
+            "coding content",
+        ),
+        (
+            Load(LoadEnd::Coding(CodingField::Transfer)),
+            "coding transfer",
+        ),
+        (Load(LoadEnd::BufferTooSmall(100)), "buffer-too-small 100"),
+        (Load(LoadEnd::OutOfTime), "out-of-time"),
+        (Load(LoadEnd::Aborted), "aborted"),
+        (Load(LoadEnd::NoConnection), "no-connection"),
+        (File(FileEnd::TftpError(65535)), "tftp-error 65535"),
+        (File(FileEnd::TftpTimeout), "tftp-timeout"),
+        (File(FileEnd::TooManyBlocks), "too-many-blocks"),
     ];
     for (outcome, word) in cases {
         check_word(&rt, outcome, word)?;

@@ -1,9 +1,9 @@
 //! The text of a report, line by line.
 ghost use Rattle.std.specs.Prelude.{◌≡◌, ◌++◌, IfOk, codes, map};
-ghost use Rattle.doc_text.specs.Reports.{accepted_words, counts_words, ended, fin_word, lease_words, outcome_word, peer_word, report_text, uri_word, visible};
+ghost use Rattle.doc_text.specs.Ends.{download_word};
+ghost use Rattle.doc_text.specs.Reports.{accepted_words, counts_words, ended, fin_word, lease_words, peer_word, report_text, uri_word, visible};
 
 use crate::dotted::Dotted;
-use crate::outcome::Outcome;
 use crate::report::{Leased, Report};
 use efi_base::{Bytes, NoMemory};
 use std::alloc::{AllocError, Global};
@@ -92,7 +92,7 @@ fn fin_word(fin: bool) -> &'static str
 
 /// The lines of the outcome, and of when it came.
 fn end_lines(alloc: Global, r: &Report) -> Result<Vec<u8>, AllocError>
-    ensures { IfOk result (λ text. text.items ≡ ended (codes "outcome " ++ outcome_word r.now.outcome) ++ ended (counts_words r.now)) }
+    ensures { IfOk result (λ text. text.items ≡ ended (codes "outcome " ++ download_word r.now.outcome) ++ ended (counts_words r.now)) }
 {
     let outcome = r.outcome;
     let mut text = format!(in alloc; "outcome {outcome}\n")?;

@@ -1,8 +1,8 @@
 -- What is known of an input that was read in pieces.
-use Rattle.std.proofs.Common.{◌≡◌, ◌⊎◌, ℕ, ◌+◌, ◌<◌, ◌≤◌, List, [], ◌∷◌, ◌++◌, length, Option, Some, None, IfSome, IfOk, IfErr, OnOk, Result, Ok, Err, inl, inr, refl, sym, subst, ap, ◌∙◌, arith, length-append}
+use Rattle.std.proofs.Common.{◌≡◌, ◌⊎◌, ℕ, ◌+◌, ◌≤◌, List, [], ◌∷◌, ◌++◌, length, Option, Some, None, IfSome, IfOk, OnOk, Result, Ok, Err, inl, inr, refl, sym, subst, ap, ◌∙◌, arith, length-append}
 use Rattle.std.proofs.lemmas.List.{append-nil}
 use Rattle.std.proofs.KnownBytes.{Consumes-nil, Consumes-trans}
-use Rattle.std.specs.Io.KnownBytes.{Consumes, IsAtEnd}
+use Rattle.std.specs.Io.KnownBytes.{Consumes, IsAtEnd, Keeps}
 use Rattle.efi_base.specs.declared.plain.Record.{Record}
 use Rattle.wire_pcap.specs.Grammar.{IsCapture}
 use Rattle.wire_pcap.specs.Reading.{Reading, HasRead, HasStopped, IsNewFault, IsUnfinished, IsWhole}
@@ -16,7 +16,9 @@ use Rattle.wire_pcap.specs.declared.fault.CapFault.{CapFault}
 use Rattle.wire_pcap.specs.declared.fault.CapFault.TheVariants.{BadAt, OutOfResources}
 use Rattle.efi_outside.specs.Intake.{TakesAtMost}
 use Rattle.efi_outside.specs.declared.intake.InputFault.{InputFault}
-use Rattle.boot_top.specs.Answers.{IsRefused, IsWatched}
+use Rattle.boot_top.specs.Extract.{IsRefused}
+use Rattle.boot_top.specs.Watched.{IsWatched}
+use Rattle.boot_top.specs.Parties.{TakesExactly}
 use Rattle.boot_top.specs.declared.watching.Watched.{Watched}
 use Rattle.boot_top.specs.Streaming.{FeedsPiece, HasFed, HasWatched, HearsAll, IsStopped}
 use Rattle.boot_top.specs.declared.watching.Watching.{Watching}
@@ -87,12 +89,17 @@ at-end a b c most v w count n P h p none says =
     let f = more-fed a b c most v w count n h p in
     all-fed a c f.fed P f.taken (p.end none) (says f.fed f.watched)
 
--- more octets came than so many
-pub too-many : (a b : Option (List ℕ)) (most : ℕ) (w : Watching) (count limit : ℕ) → HasFed a b most w count → limit < count → IfSome a (λ octets. limit < length octets)
-too-many None b most w count limit h more = tt
-too-many (Some x) None most w count limit h more = absurd h.taken
-too-many (Some x) (Some y) most w count limit h more =
-    omega (arith, ap length h.taken, length-append h.fed y, h.count, more)
+-- so many octets came
+pub came : (a b : Option (List ℕ)) (most : ℕ) (w : Watching) (count n : ℕ) → HasFed a b most w count → count ≡ n → TakesExactly a b n
+came a b most w count n h is = (h.fed, h.taken, h.count ∙ is)
+
+-- no more came where the source failed
+pub came-before : (a b c : Option (List ℕ)) (most : ℕ) (w : Watching) (count limit : ℕ) → HasFed a b most w count → Keeps b c → count ≤ limit → TakesAtMost a c limit
+came-before None b c most w count limit h keeps few = (h.fed, tt, omega (arith, h.count, few))
+came-before (Some x) None c most w count limit h keeps few = absurd h.taken
+came-before (Some x) (Some y) None most w count limit h keeps few = absurd keeps
+came-before (Some x) (Some y) (Some z) most w count limit h keeps few =
+    (h.fed, h.taken ∙ ap (λ l. h.fed ++ l) (sym keeps), omega (arith, h.count, few))
 
 -- a reader that told no fault, and of which all was heard
 pub heard-whole : (most : ℕ) (fed : List ℕ) (reader : Reading) (tap : Tap) (seen : Seen) → HearsAll most fed reader tap ⊎ IsStopped fed reader → reader.fault ≡ None

@@ -1,13 +1,12 @@
 -- What was seen of a capture is what is written for it.
-use Rattle.std.proofs.Common.{◌≡◌, ℕ, ◌≤◌, Bool, true, false, List, [], length, refl, sym, subst, ap, ◌∙◌}
+use Rattle.std.proofs.Common.{◌≡◌, ℕ, true, false, List, [], length, refl, sym, subst, ap, ◌∙◌}
 use Rattle.efi_base.specs.declared.plain.Record.{Record}
 use Rattle.boot_words.specs.declared.task.Emit.TheVariants.{Report, Image}
 use Rattle.doc_text.specs.Reports.{report_text}
 use Rattle.wire_pcap.specs.Reading.{IsWhole as IsWholeCapture}
-use Rattle.wire_http.specs.Response.{IsWhole}
-use Rattle.tcp_recv.specs.Stream.{front, is_over}
-use Rattle.tap_core.specs.declared.ends.End.{End}
-use Rattle.tap_core.specs.declared.ends.End.TheVariants.{Success, BadResponse, HttpStatus, Coding, BufferTooSmall, Truncated, Reset, OutOfTime, NoConnection}
+use Rattle.efi_base.specs.declared.load_end.LoadEnd.{LoadEnd}
+use Rattle.efi_base.specs.declared.load_end.LoadEnd.TheVariants.{Success, NoOffer, NoAck, Nak, BadUri, Unsupported, NoDns, NameError, NoAddress, DnsTimeout, NoRoute, NoMapping, Refused}
+use Rattle.efi_base.specs.declared.load_end.LoadEnd.TheVariants.{ConnectTimeout, SendTimeout, BadResponse, HttpStatus, Coding, BufferTooSmall, Truncated, Reset, Idle, OutOfTime, Aborted, OutOfResources, NoConnection}
 use Rattle.tap_core.specs.declared.passive.Seen.{Seen}
 use Rattle.tap_core.specs.Shows.{Telling, Shows}
 use Rattle.tap_core.specs.Watching.{IsSeen}
@@ -16,15 +15,32 @@ use Rattle.boot_top.specs.Extract.{Succeeded, EndedOtherwise, IsImage, is_succes
 use Rattle.boot_top.specs.Reports.{report_of}
 
 -- a success has a number
-pub number-of : (e : End) → is_success e ≡ true → (n : ℕ) × (e ≡ Success n)
+pub number-of : (e : LoadEnd) → is_success e ≡ true → (n : ℕ) × (e ≡ Success n)
 number-of (Success n) s = (n, refl)
-number-of (BadResponse part) s = absurd (cc)
+number-of (NoOffer n) s = absurd (cc)
+number-of NoAck s = absurd (cc)
+number-of Nak s = absurd (cc)
+number-of BadUri s = absurd (cc)
+number-of (Unsupported n) s = absurd (cc)
+number-of NoDns s = absurd (cc)
+number-of (NameError n) s = absurd (cc)
+number-of NoAddress s = absurd (cc)
+number-of DnsTimeout s = absurd (cc)
+number-of NoRoute s = absurd (cc)
+number-of NoMapping s = absurd (cc)
+number-of Refused s = absurd (cc)
+number-of ConnectTimeout s = absurd (cc)
+number-of SendTimeout s = absurd (cc)
+number-of (BadResponse n) s = absurd (cc)
 number-of (HttpStatus n) s = absurd (cc)
-number-of (Coding field) s = absurd (cc)
+number-of (Coding n) s = absurd (cc)
 number-of (BufferTooSmall n) s = absurd (cc)
 number-of (Truncated n) s = absurd (cc)
 number-of Reset s = absurd (cc)
+number-of Idle s = absurd (cc)
 number-of OutOfTime s = absurd (cc)
+number-of Aborted s = absurd (cc)
+number-of OutOfResources s = absurd (cc)
 number-of NoConnection s = absurd (cc)
 
 -- a download that is shown to end with success has a body

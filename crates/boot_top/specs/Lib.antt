@@ -1,6 +1,16 @@
-pub mod Answers
+-- for `run`: what the words ask for, and what is answered to them, command by command
 pub mod Commands
+-- what a command that is built answers, whichever it is
+pub mod Running
+-- the parties to a call
+pub mod Parties
+-- the command `extract`
 pub mod Extract
-pub mod Headline
+-- its report
 pub mod Reports
+-- a capture on whose connection the peer speaks one stream
+pub mod HonestPeers
+-- for the machine: an input in pieces
 pub mod Streaming
+-- and what came of it
+pub mod Watched

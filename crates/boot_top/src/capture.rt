@@ -1,8 +1,9 @@
 //! The input of `extract`, read to its end in pieces.
 ghost use Rattle.std.specs.Prelude.{◌+◌, ◌≡◌, ◌≢◌, ◌<◌, ◌≤◌, ℕ, List, [], Err, length, IfOk, IfSome, IsErrOf, OnOk, vec_len};
-ghost use Rattle.std.specs.Io.KnownBytes.{IsAtEnd};
+ghost use Rattle.std.specs.Io.KnownBytes.{IsAtEnd, Keeps};
 ghost use Rattle.efi_outside.specs.Intake.{HasInputCause, TakesAtMost, input_limit};
-ghost use Rattle.boot_top.specs.Answers.{IsWatched};
+ghost use Rattle.boot_top.specs.Watched.{IsWatched};
+ghost use Rattle.boot_top.specs.Parties.{TakesExactly};
 ghost use Rattle.boot_top.specs.Streaming.{FeedsPiece, HasWatched};
 
 use crate::watching::{Watched, Watching};
@@ -23,7 +24,8 @@ pub fn watch_source<S: Source>(alloc: Global, most: u32, src: &mut S) -> Result<
     ensures taken { TakesAtMost (S.left src.old) (S.left src.new) (input_limit + 1) }
 
     // When the faults come.
-    ensures too_long { IsErrOf result InputFault.TooLong → IfSome (S.left src.old) (λ octets. input_limit < length octets) }
+    ensures too_long { IsErrOf result InputFault.TooLong → TakesExactly (S.left src.old) (S.left src.new) (input_limit + 1) }
+    ensures failed { IsErrOf result InputFault.Failed → TakesAtMost (S.left src.old) (S.left src.new) input_limit }
     ensures cause { HasInputCause (S.faults src.old) (S.faults src.new) result }
 {
     let mut room = room_of(alloc)?;
@@ -86,6 +88,7 @@ fn read_piece<S: Source>(
     ensures piece { IfOk result (FeedsPiece (S.left src.old) (S.left src.new) watching.old watching.new) }
     ensures bound { IfOk result (λ n. n ≤ length room.old) }
     ensures taken { TakesAtMost (S.left src.old) (S.left src.new) (length room.old) }
+    ensures failed { IsErrOf result InputFault.Failed → Keeps (S.left src.old) (S.left src.new) }
     ensures cause { HasInputCause (S.faults src.old) (S.faults src.new) result }
     ensures not_too_long { result ≢ Err InputFault.TooLong }
 {

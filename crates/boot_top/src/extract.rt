@@ -9,8 +9,9 @@ ghost use Rattle.tap_core.specs.Shown.{Tells};
 ghost use Rattle.tap_core.specs.Shows.{Telling, Shows};
 ghost use Rattle.tap_core.specs.Watching.{IsSeen};
 ghost use Rattle.wire_pcap.specs.Reading.{IsWhole};
-ghost use Rattle.boot_top.specs.Answers.{HasNoReport, IsAnswered, IsAnswerText, IsRefusal, IsWatched, bad_input_text};
-ghost use Rattle.boot_top.specs.Extract.{EndedOtherwise, Succeeded, is_success};
+ghost use Rattle.boot_top.specs.Extract.{EndedOtherwise, IsRefusal, Succeeded, bad_input_text, is_success};
+ghost use Rattle.boot_top.specs.Parties.{TakesExactly};
+ghost use Rattle.boot_top.specs.Watched.{HasNoReport, IsAnswered, IsAnswerText, IsWatched};
 ghost use Rattle.boot_words.specs.declared.task.Emit.TheVariants as emit;
 
 use crate::capture::watch_source;
@@ -21,10 +22,10 @@ use crate::status::{
 use crate::watching::Watched;
 use boot_words::{Emit, ExtractTask};
 use doc_text::report_text;
-use efi_base::NoMemory;
+use efi_base::{LoadEnd, NoMemory};
 use efi_outside::{InputFault, Miss, Sink, Source, write_all};
 use std::alloc::{AllocError, Global};
-use tap_core::{End, Seen, Shown};
+use tap_core::{Seen, Shown};
 
 /// What is answered to an input.
 pub enum Answer {
@@ -51,8 +52,9 @@ pub fn extract<S: Source, K: Sink>(alloc: Global, task: ExtractTask, src: &mut S
     ensures read_first { out.new ≢ out.old → IsAtEnd (S.left src.new) }
     ensures taken { TakesAtMost (S.left src.old) (S.left src.new) (input_limit + 1) }
 
-    // The input is longer than the limit.
-    ensures too_long { result ≡ 7 → IfSome (S.left src.old) (λ input. input_limit < length input) }
+    // The input is longer than the limit: so much of it was taken, and no more.
+    ensures too_long { result ≡ 7 → TakesExactly (S.left src.old) (S.left src.new) (input_limit + 1) }
+    ensures failed { result ≡ 4 → TakesAtMost (S.left src.old) (S.left src.new) input_limit }
     ensures long { IfSome (S.left src.old) (λ input. input_limit < length input
         → (result ≡ 4) ⊎ (result ≡ 6) ⊎ (result ≡ 7)) }
 
@@ -164,11 +166,11 @@ fn report_answer(alloc: Global, shown: &Shown) -> Result<Answer, NoMemory>
     Ok(Answer::Otherwise(text))
 }
 
-fn is_success(end: End) -> bool
+fn is_success(end: LoadEnd) -> bool
     ensures { result ≡ is_success end }
 {
     match end {
-        End::Success(_) => true,
+        LoadEnd::Success(_) => true,
         _ => false,
     }
 }

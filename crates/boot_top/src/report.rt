@@ -3,10 +3,10 @@ ghost use Rattle.std.specs.Prelude.{◌≡◌, length, IfSome};
 ghost use Rattle.tcp_recv.specs.Stream.{front, is_over};
 ghost use Rattle.tap_core.specs.Shows.{Telling};
 ghost use Rattle.tap_core.specs.Shown.{Tells};
-ghost use Rattle.boot_top.specs.Reports.{outcome_of, report_of};
+ghost use Rattle.boot_top.specs.Reports.{report_of};
 
-use doc_text::{Outcome, Report};
-use tap_core::{End, Shown};
+use doc_text::{DownloadEnd, Report};
+use tap_core::Shown;
 
 /// The report of what a capture shows: there is no lease and no URI in it.
 pub fn report_of(shown: &Shown) -> Report
@@ -18,26 +18,9 @@ pub fn report_of(shown: &Shown) -> Report
         peer: shown.peer,
         accepted: shown.accepted,
         fin: shown.fin,
-        outcome: outcome_of(shown.end),
+        outcome: DownloadEnd::Load(shown.end),
         tick: shown.tick,
         sent: shown.sent,
         heard: shown.heard,
-    }
-}
-
-/// The outcome that a report tells of an end.
-fn outcome_of(end: End) -> Outcome
-    ensures { result ≡ outcome_of end }
-{
-    match end {
-        End::Success(len) => Outcome::Success(len),
-        End::BadResponse(part) => Outcome::BadResponse(part),
-        End::HttpStatus(status) => Outcome::HttpStatus(status),
-        End::Coding(field) => Outcome::Coding(field),
-        End::BufferTooSmall(len) => Outcome::BufferTooSmall(len),
-        End::Truncated(len) => Outcome::Truncated(len),
-        End::Reset => Outcome::Reset,
-        End::OutOfTime => Outcome::OutOfTime,
-        End::NoConnection => Outcome::NoConnection,
     }
 }

@@ -3,7 +3,7 @@ ghost use Rattle.std.specs.Prelude.{◌≡◌, ℕ, List, [], ◌++◌, IfOk, On
 ghost use Rattle.efi_base.specs.declared.plain.Record.{Record};
 ghost use Rattle.wire_pcap.specs.Reading.{HasRead};
 ghost use Rattle.tap_core.specs.Tapping.{HasHeard};
-ghost use Rattle.boot_top.specs.Answers.{IsWatched};
+ghost use Rattle.boot_top.specs.Watched.{IsWatched};
 ghost use Rattle.boot_top.specs.Streaming.{HasWatched, HearsAll};
 
 use efi_base::NoMemory;

@@ -1,5 +1,5 @@
 -- What came was fed.
-use Rattle.std.proofs.Common.{rules, ◌≡◌, ◌<◌, ◌≤◌, ℕ, length, take, arith}
+use Rattle.std.proofs.Common.{rules, ◌<◌, ◌≤◌, length, take, arith}
 use Rattle.std.proofs.lemmas.List.{length-take}
 use Rattle.boot_top.proofs.capture.read_piece.Goals as goal
 

@@ -1,8 +1,8 @@
 -- What a piece took joins what was taken before it, and at the source's end that is all.
-use Rattle.std.proofs.Common.{rules, ◌≡◌, ◌≤◌, ◌<◌, ◌+◌, arith}
+use Rattle.std.proofs.Common.{rules, ◌≡◌, ◌≤◌, ◌+◌, arith}
 use Rattle.std.proofs.lemmas.List.{length-take}
 use Rattle.efi_outside.proofs.Known.{TakesAtMost-more}
-use Rattle.boot_top.proofs.Inputs.{more-fed, whole-at-end, bound-at-end, taken-at-end, too-many}
+use Rattle.boot_top.proofs.Inputs.{more-fed, whole-at-end, bound-at-end, taken-at-end, came, came-before}
 use Rattle.boot_top.proofs.capture.watch_source.Goals as goal
 
 pub returns-in_err-read-clause-taken : goal.returns-in_err-read-clause-taken
@@ -39,5 +39,10 @@ loop-count-preserved g c =
 
 pub returns-clause-too_long : goal.returns-clause-too_long
 returns-clause-too_long g c told =
-    let many : 2147483648 < c.loop-count.count = search rules in
-    too-many _ _ c.args.most _ c.loop-count.count 2147483648 c.loop-count.invariant.fed many
+    let all : c.loop-count.count ≡ 2147483649 = search rules in
+    came _ _ c.args.most _ c.loop-count.count _ c.loop-count.invariant.fed all
+
+pub returns-in_err-read-clause-failed : goal.returns-in_err-read-clause-failed
+returns-in_err-read-clause-failed g c told =
+    let few : c.loop-count.count ≤ 2147483648 = search rules in
+    came-before _ _ _ c.args.most _ _ 2147483648 c.loop-count.invariant.fed (search rules) few

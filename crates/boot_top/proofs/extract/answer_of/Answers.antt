@@ -1,6 +1,6 @@
 -- What was watched is what was seen.
 use Rattle.std.proofs.Common.{subst}
-use Rattle.boot_top.specs.Answers.{IsWatched}
+use Rattle.boot_top.specs.Watched.{IsWatched}
 use Rattle.boot_top.proofs.extract.answer_of.Goals as goal
 
 pub returns-in-Capture-clause-answered : goal.returns-in-Capture-clause-answered

@@ -1,7 +1,7 @@
 -- What was seen tells what a report tells.
 use Rattle.std.proofs.Common.{sym, subst}
 use Rattle.boot_words.specs.declared.task.Emit.{Emit}
-use Rattle.boot_top.specs.Answers.{IsAnswered}
+use Rattle.boot_top.specs.Watched.{IsAnswered}
 use Rattle.boot_top.proofs.extract.answer_seen.Goals as goal
 
 pub returns-in-Image-clause-answered : goal.returns-in-Image-clause-answered

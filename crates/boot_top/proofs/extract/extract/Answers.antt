@@ -1,9 +1,7 @@
 -- What is written is what is answered to the input.
-use Rattle.std.proofs.Common.{◌≡◌, ℕ, List, inl, inr}
-use Rattle.std.specs.Io.KnownBytes.{Appends}
-use Rattle.efi_outside.specs.Causes.{AppendsFront}
-use Rattle.boot_top.specs.Answers.{IsAnswerText, IsRefusal, IsWatched}
-use Rattle.boot_top.specs.Extract.{Succeeded, EndedOtherwise}
+use Rattle.std.proofs.Common.{inl, inr}
+use Rattle.boot_top.specs.Extract.{Succeeded, EndedOtherwise, IsRefusal}
+use Rattle.boot_top.specs.Watched.{IsAnswerText}
 use Rattle.boot_top.proofs.Written.{text-written, front-written}
 use Rattle.boot_top.proofs.extract.extract.Goals as goal
 

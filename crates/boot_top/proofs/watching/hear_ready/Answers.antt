@@ -1,5 +1,5 @@
 -- A record that was given was heard.
-use Rattle.std.proofs.Common.{◌++◌, ◌∷◌, [], subst}
+use Rattle.std.proofs.Common.{◌++◌, ◌∷◌, []}
 use Rattle.boot_top.proofs.watching.hear_ready.Goals as goal
 
 pub loop-record-preserved : goal.loop-record-preserved

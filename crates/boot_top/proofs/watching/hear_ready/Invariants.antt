@@ -1,5 +1,5 @@
 -- Whatever was fed and given, the tap heard what was given.
-use Rattle.std.proofs.Common.{◌≡◌, ℕ, List, length}
+use Rattle.std.proofs.Common.{ℕ, List, length}
 use Rattle.efi_base.specs.declared.plain.Record.{Record}
 use Rattle.wire_pcap.specs.Reading.{HasRead}
 use Rattle.tap_core.specs.Tapping.{HasHeard}

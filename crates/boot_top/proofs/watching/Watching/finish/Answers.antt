@@ -1,5 +1,4 @@
 -- What came of all that was fed.
-use Rattle.std.proofs.Common.{sym, ◌∙◌}
 use Rattle.boot_top.proofs.Inputs.{heard-whole, heard-refused, fault-one}
 use Rattle.boot_top.proofs.watching.Watching.finish.Goals as goal
 

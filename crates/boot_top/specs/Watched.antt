@@ -1,31 +1,14 @@
--- What is written for an input.
-use Rattle.std.specs.Prelude.{◌≡◌, ◌⊎◌, ⊤, ℕ, List, [], ◌∷◌, ◌++◌, codes, decimal}
+-- What was watched of an input, and what is answered to it.
+use Rattle.std.specs.Prelude.{◌≡◌, ◌⊎◌, ⊤, ℕ, List, []}
 use Rattle.efi_base.specs.declared.plain.Record.{Record}
 use Rattle.boot_words.specs.declared.task.ExtractTask.{ExtractTask}
 use Rattle.tap_core.specs.Watching.{IsSeen}
-use Rattle.wire_pcap.specs.Place.{IsThePlace}
 use Rattle.wire_pcap.specs.Reading.{IsWhole}
-use Rattle.boot_top.specs.Extract.{Succeeded, EndedOtherwise}
+use Rattle.boot_top.specs.Extract.{Succeeded, EndedOtherwise, IsRefused, IsRefusal}
 use Rattle.boot_top.specs.declared.watching.Watched.{Watched}
 use Rattle.boot_top.specs.declared.watching.Watched.TheVariants as watched
 use Rattle.boot_top.specs.declared.extract.Answer.{Answer}
 use Rattle.boot_top.specs.declared.extract.Answer.TheVariants as answer
-
--- the octets are no capture, in any form
-abbrev pub IsNoCapture : List ℕ → Type 0
-IsNoCapture bytes = (records : List Record) → IsWhole bytes [] records → ⊥
-
--- the octets are no capture, and the octet n is the first of what is bad or incomplete
-pub record IsRefused (bytes : List ℕ) (n : ℕ) : Type 0 where
-  pub place : IsThePlace bytes n
-  pub none : IsNoCapture bytes
-
--- the line that tells that octet
-abbrev pub bad_input_text : ℕ → List ℕ
-bad_input_text n = codes "bad input at " ++ (decimal n ++ 10 ∷ [])
-
-abbrev pub IsRefusal : List ℕ → List ℕ → Type 0
-IsRefusal bytes text = (n : ℕ) × IsRefused bytes n × (text ≡ bad_input_text n)
 
 -- what was watched of the octets of an input, with a buffer of so many octets
 abbrev pub IsWatched : ℕ → List ℕ → Watched → Type 0

@@ -1,30 +1,14 @@
-//! The small parts of the text that captures for tests are written in: rows, words, numbers and octets. Where a text isn't of the form
-//! there is none, or the test fails.
+//! The small parts of the text of a table: rows, words, numbers and octets, and how octets are printed.
+use crate::fault::RowFault;
 use std::alloc::Global;
-use std::test::Fail;
 
-/// The rows of a table, each behind a `#`, of which there are so many.
-pub(crate) fn rows_of(alloc: Global, table: &str, count: usize) -> Result<Vec<&str>, Fail> {
-    let Some((before, table)) = table.split_once('#') else {
-        return Err(Fail::new("a table without a row"));
-    };
-    if !before.lines().all(is_note) {
-        return Err(Fail::new("text in front of a table's first row"));
-    }
+/// The rows of a table, each behind a `#`, and what stands in front of them.
+pub(crate) fn rows_of(alloc: Global, table: &str) -> Result<Vec<&str>, RowFault> {
     let mut rows = Vec::new(alloc);
     for row in table.split('#') {
         rows.push(row)?;
     }
-    if rows.len() != count {
-        return Err(Fail::new("a table of another number of rows"));
-    }
     Ok(rows)
-}
-
-/// A line without a word, or a note.
-pub(crate) fn is_note(line: &str) -> bool {
-    let line = line.trim();
-    line.is_empty() || line.starts_with("//")
 }
 
 /// The first word, and what stands behind the blank.
@@ -33,12 +17,6 @@ pub(crate) fn word_of(text: &str) -> (&str, &str) {
         Some(parts) => parts,
         None => (text, ""),
     }
-}
-
-/// What stands in front of the first bar, and behind it.
-pub(crate) fn field_of(text: &str) -> Option<(&str, &str)> {
-    let (field, rest) = text.split_once('|')?;
-    Some((field.trim(), rest.trim()))
 }
 
 pub(crate) fn parsed_number(text: &str) -> Option<u32> {
@@ -61,7 +39,7 @@ pub(crate) fn pair_of(text: &str) -> Option<(u32, u32)> {
 }
 
 /// The octets of a text, in which `\r`, `\n` and `\s` stand for the two octets that end a line and for a blank, and `\\` for `\`.
-pub(crate) fn octets_of(alloc: Global, text: &str) -> Result<Vec<u8>, Fail> {
+pub(crate) fn octets_of(alloc: Global, text: &str) -> Result<Vec<u8>, RowFault> {
     let mut octets = Vec::new(alloc);
     let mut escaped = false;
     for octet in text.as_bytes() {
@@ -71,13 +49,13 @@ pub(crate) fn octets_of(alloc: Global, text: &str) -> Result<Vec<u8>, Fail> {
             continue;
         }
         let Some(meant) = meant_by(octet, escaped) else {
-            return Err(Fail::new("octets that aren't of the form"));
+            return Err(RowFault::Text("octets that aren't of the form"));
         };
         octets.push(meant)?;
         escaped = false;
     }
     if escaped {
-        return Err(Fail::new("octets without their end"));
+        return Err(RowFault::Text("octets without their end"));
     }
     Ok(octets)
 }
@@ -96,11 +74,11 @@ fn meant_by(octet: u8, escaped: bool) -> Option<u8> {
 }
 
 /// The octets that numbers between blanks tell.
-pub(crate) fn numbers_of(alloc: Global, text: &str) -> Result<Vec<u8>, Fail> {
+pub(crate) fn numbers_of(alloc: Global, text: &str) -> Result<Vec<u8>, RowFault> {
     let mut octets = Vec::new(alloc);
     for word in text.split_whitespace() {
         let Ok(octet) = word.parse::<u8>() else {
-            return Err(Fail::new("a number that isn't an octet's"));
+            return Err(RowFault::Text("a number that isn't an octet's"));
         };
         octets.push(octet)?;
     }
@@ -108,10 +86,46 @@ pub(crate) fn numbers_of(alloc: Global, text: &str) -> Result<Vec<u8>, Fail> {
 }
 
 /// These octets so many times.
-pub(crate) fn repeated(alloc: Global, octets: &[u8], count: u32) -> Result<Vec<u8>, Fail> {
+pub(crate) fn repeated(alloc: Global, octets: &[u8], count: u32) -> Result<Vec<u8>, RowFault> {
     let mut all = Vec::new(alloc);
     for _ in 0..count {
         all.extend_from_slice(octets)?;
     }
     Ok(all)
+}
+
+/// Puts octets so that a table may hold them in one line: each that isn't a visible one of ASCII or a blank is told by its number.
+pub(crate) fn put_visible(text: &mut String, octets: &[u8]) -> Result<(), RowFault> {
+    for octet in octets {
+        match *octet {
+            b'\r' => text.push_str("\\r")?,
+            b'\n' => text.push_str("\\n")?,
+            b'\\' => text.push_str("\\\\")?,
+            0x20..=0x7E => text.push(char::from(*octet))?,
+            other => write!(text, "\\x{other:02x}")?,
+        }
+    }
+    Ok(())
+}
+
+fn digit_of(code: u8) -> Option<u8> {
+    match code {
+        b'0'..=b'9' => Some(code - b'0'),
+        b'a'..=b'f' => Some(code - b'a' + 10),
+        _ => None,
+    }
+}
+
+/// Puts the octets that pairs of hexadecimal digits tell.
+pub(crate) fn put_hex(octets: &mut Vec<u8>, text: &str) -> Result<(), RowFault> {
+    for pair in text.as_bytes().chunks(2) {
+        let [high, low] = pair else {
+            return Err(RowFault::Text("a digit without its other"));
+        };
+        let (Some(high), Some(low)) = (digit_of(*high), digit_of(*low)) else {
+            return Err(RowFault::Text("octets that aren't hexadecimal digits"));
+        };
+        octets.push((high << 4) | low)?;
+    }
+    Ok(())
 }

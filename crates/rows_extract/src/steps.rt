@@ -1,5 +1,5 @@
-//! The steps of captures for tests, and the text that each is written in. What a step puts into a capture isn't here.
-use crate::text_tests::{first_number, pair_of, parsed_number, word_of};
+//! The steps of captures, and the text that each is written in. What a step puts into a capture isn't here.
+use crate::text::{first_number, pair_of, parsed_number, word_of};
 
 /// What a record of a capture holds. Places count the octets of the peer's stream.
 #[derive(Clone, Copy)]

@@ -1,12 +1,12 @@
-//! What the steps of captures for tests put into them: what a station and its peer send on one connection, a frame in each record.
-use crate::capture_tests::{Writer, put_head, put_record};
-use crate::frame_tests::{
-    Place, Segment, Sums, frame_octets, packet_octets, put_header_sum, put_octet, segment_octets,
+//! What the steps put into a capture: what a station and its peer send on one connection, a frame in each record.
+use crate::fault::RowFault;
+use crate::steps::{ACK, FIN, Manner, RST, SYN, Step};
+use crate::text::{numbers_of, octets_of, pair_of, repeated};
+use std::alloc::Global;
+use test_frames::{
+    Segment, Station, Sums, Writer, frame_octets, packet_octets, put_head, put_header_sum,
+    put_octet, put_record, segment_octets,
 };
-use crate::step_tests::{ACK, FIN, Manner, RST, SYN, Step};
-use crate::text_tests::{numbers_of, octets_of, pair_of, repeated};
-use std::alloc::{AllocError, Global};
-use std::test::Fail;
 
 /// The peer's stream, and the numbers with which the station and the peer begin.
 #[derive(Clone, Copy)]
@@ -16,13 +16,13 @@ pub(crate) struct Plan<'a> {
     pub irs: u32,
 }
 
-const STATION: Place = Place {
+const STATION: Station = Station {
     mac: [2, 0, 0, 0, 0, 1],
     addr: [10, 0, 0, 2],
     port: 49_153,
 };
 
-const PEER: Place = Place {
+const PEER: Station = Station {
     mac: [2, 0, 0, 0, 0, 2],
     addr: [10, 0, 0, 1],
     port: 80,
@@ -40,7 +40,11 @@ const FRAGMENT_EIGHTS: u16 = 2;
 const MORE: u16 = 0x2000;
 
 /// Puts the records of a step.
-pub(crate) fn put_step(writer: &mut Writer, plan: &Plan<'_>, step: Step<'_>) -> Result<(), Fail> {
+pub(crate) fn put_step(
+    writer: &mut Writer,
+    plan: &Plan<'_>,
+    step: Step<'_>,
+) -> Result<(), RowFault> {
     let alloc = writer.alloc;
     let payload = payload_of(alloc, plan, step)?;
     let options = options_of(alloc, step)?;
@@ -58,7 +62,7 @@ fn put_segment(
     step: Step<'_>,
     s: &Segment<'_>,
     octets: &[u8],
-) -> Result<(), Fail> {
+) -> Result<(), RowFault> {
     match step {
         Step::Stray => put_stray(writer),
         Step::Record(len) => Ok(put_head(writer, len)?),
@@ -86,21 +90,21 @@ fn put_segment(
     }
 }
 
-fn put_stray(writer: &mut Writer) -> Result<(), Fail> {
+fn put_stray(writer: &mut Writer) -> Result<(), RowFault> {
     put_record(writer, &[2, 0, 0, 0, 0, 2, 2, 0, 0, 0, 0, 1, 8])?;
     Ok(())
 }
 
 /// The octets from the one place to the other.
-fn part(octets: &[u8], from: u32, to: u32) -> Result<&[u8], Fail> {
+fn part(octets: &[u8], from: u32, to: u32) -> Result<&[u8], RowFault> {
     match octets.get(from as usize..to as usize) {
         Some(part) => Ok(part),
-        None => Err(Fail::new("a part that isn't there")),
+        None => Err(RowFault::Text("a part that isn't there")),
     }
 }
 
 /// The octets of a segment's payload.
-fn payload_of(alloc: Global, plan: &Plan<'_>, step: Step<'_>) -> Result<Vec<u8>, Fail> {
+fn payload_of(alloc: Global, plan: &Plan<'_>, step: Step<'_>) -> Result<Vec<u8>, RowFault> {
     match step {
         Step::Text(_, _, text) => octets_of(alloc, text),
         Step::Many(_, count, text) => {
@@ -116,7 +120,7 @@ fn payload_of(alloc: Global, plan: &Plan<'_>, step: Step<'_>) -> Result<Vec<u8>,
 }
 
 /// The octets of the stream, or other ones, that a step sends as they are.
-fn stream_part<'a>(plan: &Plan<'a>, step: Step<'_>) -> Result<&'a [u8], Fail> {
+fn stream_part<'a>(plan: &Plan<'a>, step: Step<'_>) -> Result<&'a [u8], RowFault> {
     match step {
         Step::Send => Ok(b"GET / HTTP/1.1\r\n\r\n"),
         Step::Part(_, from, to) => part(plan.stream, from, to),
@@ -125,7 +129,7 @@ fn stream_part<'a>(plan: &Plan<'a>, step: Step<'_>) -> Result<&'a [u8], Fail> {
     }
 }
 
-fn options_of(alloc: Global, step: Step<'_>) -> Result<Vec<u8>, Fail> {
+fn options_of(alloc: Global, step: Step<'_>) -> Result<Vec<u8>, RowFault> {
     match step {
         Step::Header(_, text) => numbers_of(alloc, text),
         _ => Ok(Vec::new(alloc)),
@@ -163,11 +167,11 @@ fn from_station(plan: &Plan<'_>, step: Step<'_>) -> Segment<'static> {
     };
     match step {
         Step::AskAnother => Segment {
-            from: Place {
+            from: Station {
                 port: STATION.port + 1,
                 ..STATION
             },
-            to: Place { port: 8080, ..PEER },
+            to: Station { port: 8080, ..PEER },
             seq: plan.iss.wrapping_add(1_000),
             ..asks
         },
@@ -184,7 +188,7 @@ fn from_station(plan: &Plan<'_>, step: Step<'_>) -> Segment<'static> {
 fn from_peer(plan: &Plan<'_>, step: Step<'_>) -> Segment<'static> {
     let (flags, place) = flags_and_place(step);
     Segment {
-        from: Place {
+        from: Station {
             port: port_of(step),
             ..PEER
         },
@@ -235,14 +239,14 @@ fn offset_of(step: Step<'_>) -> u8 {
 }
 
 /// Puts a packet in a record.
-fn put_packet(writer: &mut Writer, s: &Segment<'_>, packet: &[u8]) -> Result<(), Fail> {
+fn put_packet(writer: &mut Writer, s: &Segment<'_>, packet: &[u8]) -> Result<(), RowFault> {
     let frame = frame_octets(writer.alloc, s, packet)?;
     put_record(writer, &frame)?;
     Ok(())
 }
 
 /// Puts a segment in a packet without a checksum.
-fn put_blank(writer: &mut Writer, s: &Segment<'_>, octets: &[u8]) -> Result<(), Fail> {
+fn put_blank(writer: &mut Writer, s: &Segment<'_>, octets: &[u8]) -> Result<(), RowFault> {
     let packet = packet_octets(writer.alloc, s, NUMBER, 0, octets)?;
     put_packet(writer, s, &packet)
 }
@@ -254,14 +258,14 @@ fn put_fragment(
     number: u16,
     word: u16,
     octets: &[u8],
-) -> Result<(), Fail> {
+) -> Result<(), RowFault> {
     let mut packet = packet_octets(writer.alloc, s, number, word, octets)?;
     put_header_sum(&mut packet);
     put_packet(writer, s, &packet)
 }
 
 /// Puts the octets of a segment in fragments.
-fn put_fragments(writer: &mut Writer, s: &Segment<'_>, octets: &[u8]) -> Result<(), Fail> {
+fn put_fragments(writer: &mut Writer, s: &Segment<'_>, octets: &[u8]) -> Result<(), RowFault> {
     let mut place = 0u16;
     let mut left = octets.len();
     for piece in octets.chunks(FRAGMENT) {
@@ -286,9 +290,9 @@ fn put_flood(
     more: bool,
     numbers: (u16, u16),
     places: &str,
-) -> Result<(), Fail> {
+) -> Result<(), RowFault> {
     let Some((from, to)) = pair_of(places) else {
-        return Err(Fail::new("a flood without its places"));
+        return Err(RowFault::Text("a flood without its places"));
     };
     let (first, count) = numbers;
     let octets = repeated(writer.alloc, b"x", to.saturating_sub(from))?;
@@ -312,11 +316,11 @@ fn put_altered(
     octets: &[u8],
     zeros: u32,
     text: &str,
-) -> Result<(), Fail> {
+) -> Result<(), RowFault> {
     let alloc = writer.alloc;
     let changes = numbers_of(alloc, text)?;
     if changes.len() % 2 != 0 {
-        return Err(Fail::new("a place without its octet"));
+        return Err(RowFault::Text("a place without its octet"));
     }
     let mut packet = packet_octets(alloc, s, NUMBER, 0, octets)?;
     alter(&mut packet, &changes);

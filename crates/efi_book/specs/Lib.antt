@@ -1,0 +1,5 @@
+pub mod Firsts
+pub mod Owners
+pub mod Pendings
+pub mod Books
+pub mod Conserves

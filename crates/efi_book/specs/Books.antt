@@ -1,5 +1,5 @@
 -- What a contract sees of a book.
-use Rattle.std.specs.Prelude.{◌≡◌, ℕ, ◌+◌, ◌-◌, ◌^◌, Bool, ◌&&◌, nat_le, max, is_none, List, [], ◌∷◌, ◌++◌, filter, count_by, Option, Some, None, option_map, slice_get, slice_set as set, drop}
+use Rattle.std.specs.Prelude.{◌≡◌, ℕ, ◌+◌, ◌-◌, ◌^◌, Bool, ◌&&◌, nat_le, is_none, List, [], ◌∷◌, ◌++◌, filter, count_by, Option, Some, None, option_map, slice_get, slice_set as set, drop}
 use Rattle.std.specs.List.{position, remove, sum_by}
 use Rattle.efi_base.specs.declared.tokens.ChildId.{ChildId}
 use Rattle.efi_base.specs.declared.tokens.Ticket.{Ticket}

@@ -1,6 +1,6 @@
 -- The first element of a list that passes a test.
-use Rattle.std.specs.Prelude.{ℕ, Bool, List, Option, Some, None, slice_get}
-use Rattle.std.specs.List.{position, remove}
+use Rattle.std.specs.Prelude.{ℕ, Bool, List, Option, slice_get}
+use Rattle.std.specs.List.{position}
 use Rattle.std.specs.Option.{option_and_then}
 
 module _ {X : Type 0} where

@@ -1,5 +1,5 @@
 -- Words on single tokens: which are meant, and where they go when they end.
-use Rattle.std.specs.Prelude.{◌≡◌, ℕ, Bool, ◌==◌, ◌&&◌, not, List, [], ◌∷◌, ◌++◌}
+use Rattle.std.specs.Prelude.{ℕ, Bool, ◌==◌, ◌&&◌, not, List, [], ◌∷◌, ◌++◌}
 use Rattle.efi_base.specs.declared.tokens.ChildId.{ChildId}
 use Rattle.efi_base.specs.declared.tokens.Ticket.{Ticket}
 use Rattle.efi_base.specs.declared.tokens.Owner.{Owner}

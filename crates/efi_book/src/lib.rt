@@ -1,10 +1,26 @@
-//! What every driver keeps: its book of tokens, each pending or ended once.
+//! What every driver keeps: its children under handles, its book of tokens, each pending or ended once, and what it
+//! asks of the layer below. The rules of single protocols aren't here.
 #![tactic(auto)]
 
 // tokens that are pending, and those that have ended
 mod book;
+// live children under handles
+mod children;
+// children, tokens and messages, as every driver has them
+mod driver;
 // single tokens, and where they go when they end
 mod ends;
+// what holds of a book over any list of acts
+mod laws;
+// messages for the layer below
+mod outbox;
 
 pub use book::{Book, TOKENS};
+pub use children::{CHILDREN, Child, Children, Handle, OWN_CHILDREN};
+pub use driver::Core;
 pub use ends::{Done, Kinded, Pending, Raised};
+pub use laws::{a_stop_ends_the_childs_alone, each_token_is_once, nothing_else_aborts};
+pub use outbox::Outbox;
+
+#[cfg(test)]
+mod tests;

@@ -1,0 +1,6 @@
+pub mod Addresses
+pub mod Hex
+pub mod Lines
+pub mod Names
+pub mod Numbers
+pub mod Words

@@ -1,16 +1,11 @@
 -- The text of a report: seven lines, each ended by LF.
-use Rattle.std.specs.Prelude.{ℕ, ◌/◌, ◌%◌, ◌&&◌, Bool, true, false, nat_le, List, [], ◌∷◌, ◌++◌, map, codes, decimal, Option, Some, None, if◌then◌else◌}
+use Rattle.std.specs.Prelude.{ℕ, ◌&&◌, Bool, true, false, nat_le, List, [], ◌∷◌, ◌++◌, map, codes, decimal, Option, Some, None, if◌then◌else◌}
 use Rattle.std.specs.List.{concat}
 use Rattle.efi_base.specs.declared.plain.Peer.{Peer}
+use Rattle.text_base.specs.Addresses.{dotted}
 use Rattle.doc_text.specs.Ends.{numbered, download_word}
 use Rattle.doc_text.specs.declared.report.Leased.{Leased}
 use Rattle.doc_text.specs.declared.report.Report.{Report}
-
--- four numbers joined by dots, the highest octet first
-abbrev pub dotted : ℕ → List ℕ
-dotted n =
-    decimal (n / 16777216) ++ (codes "." ++ (decimal (n / 65536 % 256) ++ (codes "."
-    ++ (decimal (n / 256 % 256) ++ (codes "." ++ decimal (n % 256))))))
 
 -- the octet where it is a visible ASCII character, else `?`
 abbrev pub visible : ℕ → ℕ

@@ -94,7 +94,7 @@ fn what_word(what: What) -> &'static str
     }
 }
 
-fn part_word(part: Part) -> &'static str
+pub fn part_word(part: Part) -> &'static str
     ensures { result.now ≡ part_word part }
 {
     match part {

@@ -1,7 +1,9 @@
-//! Whole reports, and the word of each outcome.
+//! Whole reports, the word of each outcome, and lines of traces.
 use crate::DownloadEnd::{File, Load};
-use crate::{DownloadEnd, FileEnd, Leased, Report, report_text};
-use efi_base::{Bytes, CodingField, Ip4, LoadEnd, Part, Peer, Tick, What};
+use crate::{
+    DownloadEnd, FileEnd, Leased, Report, TraceEnd, TraceLine, TraceUnit, report_text, trace_line,
+};
+use efi_base::{Bytes, CodingField, End, Field, Ip4, LoadEnd, Mac, Part, Peer, Refuse, Tick, What};
 use std::process::Abort;
 use std::test::Fail;
 
@@ -191,4 +193,52 @@ fn words_by_the_table(rt: HostRuntime) -> Result<(), Fail> {
         check_word(&rt, outcome, word)?;
     }
     Ok(())
+}
+
+fn check_line<R: Abort + AllocGlobal>(rt: &R, line: &TraceLine, wanted: &str) -> Result<(), Fail> {
+    let text = trace_line(rt.alloc(), line);
+    let Ok(text) = text else {
+        panic!(rt; "no memory");
+    };
+    assert_eq!(rt; text.as_slice(), wanted.as_bytes());
+    Ok(())
+}
+
+fn octets<R: Abort + AllocGlobal>(rt: &R, octets: &[u8]) -> Result<Bytes, Fail> {
+    Ok(Bytes::from_vec(octets.to_vec(rt.alloc())?))
+}
+
+#[test]
+fn answers_by_the_table(rt: HostRuntime) -> Result<(), Fail> {
+    let peer = Mac([2, 0, 0, 0, 0, 0xFE]);
+    let room = Refuse::BadConfig(Field::Room);
+    check_line(&rt, &TraceLine::First, "efitrace 1\n")?;
+    check_line(&rt, &TraceLine::Done, "done\n")?;
+    check_line(&rt, &TraceLine::Found(peer), "found 02:00:00:00:00:fe\n")?;
+    check_line(&rt, &TraceLine::Handle(1), "handle 1\n")?;
+    check_line(&rt, &TraceLine::Token(65), "token 65\n")?;
+    check_line(&rt, &TraceLine::Refused(room), "refused bad-config room\n")?;
+    check_line(&rt, &TraceLine::Tick(499), "tick 499\n")?;
+    check_line(&rt, &TraceLine::Heard, "heard\n")?;
+    check_line(&rt, &TraceLine::Last, "end\n")
+}
+
+#[test]
+fn ends_by_the_table(rt: HostRuntime) -> Result<(), Fail> {
+    let source = Peer {
+        addr: Ip4(0x0A00_0001),
+        port: 7,
+    };
+    let unit = TraceUnit::FromPort(source, octets(&rt, &[0x68, 0x69])?);
+    let line = TraceLine::Fired(2, TraceEnd::Success(unit));
+    check_line(&rt, &line, "fired 2 success 10.0.0.1 7 6869\n")?;
+    let line = TraceLine::Fired(1, TraceEnd::Success(TraceUnit::Nothing));
+    check_line(&rt, &line, "fired 1 success -\n")?;
+    let line = TraceLine::Fired(1, TraceEnd::Failed(End::NoOffer(0)));
+    check_line(&rt, &line, "fired 1 no-offer 0\n")?;
+    let load = End::Load(LoadEnd::BadResponse(Part::Head));
+    let line = TraceLine::Fired(3, TraceEnd::Failed(load));
+    check_line(&rt, &line, "fired 3 bad-response head\n")?;
+    let line = TraceLine::Sent(octets(&rt, &[0, 0xB5, 0x42])?);
+    check_line(&rt, &line, "sent 00b542\n")
 }

@@ -3,10 +3,10 @@ ghost use Rattle.std.specs.Prelude.{◌≡◌, ◌++◌, IfOk, codes, map};
 ghost use Rattle.doc_text.specs.Ends.{download_word};
 ghost use Rattle.doc_text.specs.Reports.{accepted_words, counts_words, ended, fin_word, lease_words, peer_word, report_text, uri_word, visible};
 
-use crate::dotted::Dotted;
 use crate::report::{Leased, Report};
 use efi_base::{Bytes, NoMemory};
 use std::alloc::{AllocError, Global};
+use text_base::Dotted;
 
 /// The text of a report: seven lines of words, each ended by LF.
 pub fn report_text(alloc: Global, r: &Report) -> Result<Bytes, NoMemory>

@@ -33,6 +33,9 @@ module _ {T : Type 0} where
   abbrev pub no_tokens : Tokens T
   no_tokens = record { pending = []; done = []; ups = []; next = 1; spare = 0 }
 
+  abbrev pub no_tokens_from : ℕ → Tokens T
+  no_tokens_from next = record { pending = []; done = []; ups = []; next = next; spare = 0 }
+
   -- why a token isn't accepted, but for want of memory
   abbrev pub accept_refusal : Tokens T → ChildId → Owner → Option Refuse
   accept_refusal s child owner =
@@ -159,6 +162,15 @@ module _ {T : Type 0} where
       sum_by (λ (p : Pending T). counts o p.owner) s.pending
       + sum_by (λ (d : Done T). counts o (User d.token)) s.done
       + sum_by (λ (d : Raised T). counts o (Upper d.proto d.waits)) s.ups
+
+  -- how many tokens of this owner are taken out with an answer
+  abbrev pub given : Owner → Option (Done T) → ℕ
+  given o None = 0
+  given o (Some d) = counts o (User d.token)
+
+  abbrev pub given_up : Owner → Option (Raised T) → ℕ
+  given_up o None = 0
+  given_up o (Some d) = counts o (Upper d.proto d.waits)
 
 -- no token is lost or doubled
 abbrev pub Keeps : {T : Type 0} → Tokens T → Tokens T → Type 0

@@ -16,7 +16,7 @@ use Rattle.efi_book.specs.declared.ends.Raised.{Raised}
 use Rattle.efi_book.specs.declared.ends.Whose.{Whose}
 use Rattle.efi_book.specs.Owners.{counts}
 use Rattle.efi_book.specs.Pendings.{is_at, picks, picks_not, users_exit, uppers_exit, to_users, to_uppers, users_of, uppers_of, with_work}
-use Rattle.efi_book.specs.Books.{Tokens, with_pending, left_at, ended_at, ended_with, aborted, set_at, put_at, work_put, times}
+use Rattle.efi_book.specs.Books.{Tokens, with_pending, left_at, ended_at, ended_with, aborted, set_at, put_at, work_put, without_done, without_up, times, given, given_up}
 
 module _ {T : Type 0} (weigh : Ticket → ChildId → Owner → ℕ) where
   abbrev pub here : Pending T → ℕ
@@ -132,3 +132,19 @@ module _ {T : Type 0} (o : Owner) where
 
   pub times_put : (s : Tokens T) (ticket : Ticket) (work : T) → times o (work_put s ticket work) ≡ times o s
   times_put s ticket work = total_put (owned o) s ticket work
+
+  pub times_taken : (s : Tokens T) (r : Option (Done T)) → r ≡ slice_get s.done 0 → times o (without_done s) + given o r ≡ times o s
+  times_taken s None h = omega (arith, none-left s.done h)
+    where
+      none-left : (ds : List (Done T)) → None ≡ slice_get ds 0 → sum_by (λ (d : Done T). counts o (User d.token)) (drop 1 ds) ≡ sum_by (λ (d : Done T). counts o (User d.token)) ds
+      none-left [] h = refl
+      none-left (d ∷ ds) h = absurd (cc)
+  times_taken s (Some d) h = omega (arith, done_taken (owned o) s.done d h)
+
+  pub times_taken_up : (s : Tokens T) (r : Option (Raised T)) → r ≡ slice_get s.ups 0 → times o (without_up s) + given_up o r ≡ times o s
+  times_taken_up s None h = omega (arith, none-up s.ups h)
+    where
+      none-up : (ds : List (Raised T)) → None ≡ slice_get ds 0 → sum_by (λ (d : Raised T). counts o (Upper d.proto d.waits)) (drop 1 ds) ≡ sum_by (λ (d : Raised T). counts o (Upper d.proto d.waits)) ds
+      none-up [] h = refl
+      none-up (d ∷ ds) h = absurd (cc)
+  times_taken_up s (Some d) h = omega (arith, up_taken (owned o) s.ups d h)

@@ -8,8 +8,8 @@ use Rattle.efi_base.specs.declared.tokens.Owner.{Owner}
 use Rattle.efi_base.specs.declared.refuse.Refuse.{Refuse}
 use Rattle.efi_base.specs.declared.refuse.Refuse.TheVariants.{NotStarted, AlreadyStarted}
 use Rattle.efi_base.specs.Refusals.{first_of, refuse_if}
-use Rattle.efi_book.specs.Families.{Family, no_children, value_of, handle_refusal, with_child, with_own, without_child, with_value}
-use Rattle.efi_book.specs.Books.{Tokens, no_tokens, accept_refusal, with_pending, child_aborted, cancel_refusal, cancelled, token_refusal, token_cancelled}
+use Rattle.efi_book.specs.Families.{Family, no_children, no_children_from, value_of, handle_refusal, with_child, with_own, without_child, with_value}
+use Rattle.efi_book.specs.Books.{Tokens, no_tokens, no_tokens_from, accept_refusal, with_pending, child_aborted, cancel_refusal, cancelled, token_refusal, token_cancelled}
 use Rattle.efi_book.specs.Outboxes.{Waiting, no_messages}
 
 -- the children with their configurations, the tokens, and the messages for the layer below
@@ -24,6 +24,9 @@ id_of serial = record { 0 = serial }
 module _ {C W M : Type 0} where
   abbrev pub start : ℕ → Drive C W M
   start own = record { family = no_children 256 own; tokens = no_tokens; outbox = no_messages }
+
+  abbrev pub start_from : ℕ → ℕ → ℕ → Drive C W M
+  start_from own serial ticket = record { family = no_children_from 256 own serial; tokens = no_tokens_from ticket; outbox = no_messages }
 
   abbrev pub in_family : Drive C W M → Family (Option C) → Drive C W M
   in_family s f = record { family = f; tokens = s.tokens; outbox = s.outbox }

@@ -8,6 +8,8 @@ pub mod Pendings
 pub mod Books
 -- no call loses or doubles a token
 pub mod Conserves
+-- how a table keeps children under keys
+pub mod Tables
 -- children under handles
 pub mod Families
 -- messages that wait

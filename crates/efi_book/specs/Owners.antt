@@ -1,5 +1,5 @@
 -- To whom a token belongs: a caller, or a driver above.
-use Rattle.std.specs.Prelude.{ℕ, Bool, true, false, ◌==◌, ◌&&◌, if◌then◌else◌}
+use Rattle.std.specs.Prelude.{ℕ, Bool, true, false, ◌==◌, ◌&&◌, if◌then◌else◌, Result, Ok, Err}
 use Rattle.efi_base.specs.declared.tokens.TokenId.{TokenId}
 use Rattle.efi_base.specs.declared.tokens.Owner.{Owner}
 use Rattle.efi_base.specs.declared.tokens.Owner.TheVariants.{User, Upper}
@@ -37,3 +37,8 @@ same_owner (Upper p t) (Upper q u) = proto_number p == proto_number q && t.0 == 
 -- how often this is the owner
 abbrev pub counts : Owner → Owner → ℕ
 counts o p = if same_owner p o then 1 else 0
+
+-- how many tokens of this owner an answer took in, where it speaks of a token of the second owner
+abbrev pub gained : {T E : Type 0} → Owner → Owner → Result T E → ℕ
+gained o owner (Ok t) = counts o owner
+gained o owner (Err e) = 0

@@ -5,17 +5,14 @@ ghost use Rattle.std.specs.VecDeque.{deque_len, deque_capacity};
 ghost use Rattle.efi_base.specs.Refusals.{AnswersBy, HandsBackExactly, RefusesExactly};
 
 use crate::ends::{
-    Done, Kinded, Pending, Raised, Whose, abort_of, count_of, index_of, index_of_childs,
-    index_of_kind, index_of_oldest, index_of_token, leave,
+    Done, Kinded, Pending, Raised, Whose, abort_of, index_of, index_of_childs, index_of_kind,
+    index_of_oldest, index_of_token, is_full, leave,
 };
 use efi_base::{ChildId, End, NoMemory, Owner, Refuse, Refused, Ticket, TokenId};
 use std::alloc::Global;
 use std::collections::VecDeque;
 use std::marker::Model;
 use std::mem;
-
-/// How many tokens of callers may be pending on one child.
-pub const TOKENS: usize = 64;
 
 /// The tokens of one driver: those that are pending, in the order of their acceptance, and those that have ended, in
 /// the order of their ends, by two exits. A token that is accepted has its place at the exits, so ends take no memory.
@@ -44,29 +41,40 @@ impl<T> Model for Book<T> {
 }
 
 impl<T: Drop> Book<T> {
-    ghost use Rattle.efi_book.specs.Books.{no_tokens, accept_refusal, with_pending, with_spare, completed, completed_with, child_aborted, owner_aborted, cancel_refusal, cancelled, token_refusal, token_cancelled, oldest_of, work_of, work_put, without_done, without_up};
+    ghost use Rattle.efi_base.specs.declared.tokens.Owner.{Owner as OwnerValue};
+    ghost use Rattle.efi_book.specs.Owners.{gained};
+    ghost use Rattle.efi_book.specs.Books.{times, Keeps, given, given_up, no_tokens, no_tokens_from, accept_refusal, with_pending, with_spare, completed, completed_with, child_aborted, owner_aborted, cancel_refusal, cancelled, token_refusal, token_cancelled, oldest_of, work_of, work_put, without_done, without_up};
 
     /// A book without tokens. Tickets rise by one from 1.
     pub fn new(alloc: Global) -> Book<T>
         ensures { result ≡ no_tokens }
     {
+        Book::starting_at(alloc, Ticket(1))
+    }
+
+    /// A book without tokens whose first ticket is this one, as after so many others.
+    pub fn starting_at(alloc: Global, first: Ticket) -> Book<T>
+        ensures { result ≡ no_tokens_from first.0 }
+    {
         Book {
             pending: Vec::new(alloc),
             done: VecDeque::new(alloc),
             ups: VecDeque::new(alloc),
-            next: 1,
+            next: first.0,
             spare: 0,
         }
     }
 
     /// Takes a token in, and keeps room for its end.
+    #[tactic(auto, using(crate::specs::Conserves::times_accepted))]
     pub fn accept(&mut self, child: ChildId, owner: Owner, work: T) -> Result<Ticket, Refused<T>>
         ensures answer { AnswersBy (accept_refusal self.old child owner) result }
         ensures ok { IfOk result (λ t. (t.0 ≡ self.old.next) × (self.new ≡ with_pending self.old child owner work)) }
         ensures err { IfErr result (λ r. (r.work ≡ work) × (self.new ≡ self.old)) }
+        ensures keeps { (o : OwnerValue) → times o self.new ≡ times o self.old + gained o owner result }
     {
         if let Owner::User(_) = owner
-            && count_of(&self.pending, child) >= TOKENS
+            && is_full(&self.pending, child)
         {
             return Err(Refused {
                 why: Refuse::NotReady,
@@ -101,6 +109,7 @@ impl<T: Drop> Book<T> {
     pub fn reserve(&mut self, n: u32) -> Result<(), NoMemory>
         ensures ok { OnOk result (self.new ≡ with_spare self.old (max self.old.spare n)) }
         ensures err { OnErr result (self.new ≡ self.old) }
+        ensures keeps { Keeps self.old self.new }
     {
         let n = n as usize;
         if n <= self.spare {
@@ -112,6 +121,7 @@ impl<T: Drop> Book<T> {
     }
 
     /// As `accept`, from the room that `reserve` took. It takes no memory.
+    #[tactic(auto, using(crate::specs::Conserves::times_accepted))]
     pub fn accept_spare(
         &mut self,
         child: ChildId,
@@ -122,9 +132,10 @@ impl<T: Drop> Book<T> {
         ensures answer { HandsBackExactly (accept_refusal self.old child owner) result }
         ensures ok { IfOk result (λ t. (t.0 ≡ self.old.next) × (self.new ≡ with_spare (with_pending self.old child owner work) (self.old.spare - 1))) }
         ensures err { IfErr result (λ r. (r.work ≡ work) × (self.new ≡ self.old)) }
+        ensures keeps { (o : OwnerValue) → times o self.new ≡ times o self.old + gained o owner result }
     {
         if let Owner::User(_) = owner
-            && count_of(&self.pending, child) >= TOKENS
+            && is_full(&self.pending, child)
         {
             return Err(Refused {
                 why: Refuse::NotReady,
@@ -150,8 +161,10 @@ impl<T: Drop> Book<T> {
     }
 
     /// The pending token ends; where it isn't pending, nothing changes. It takes no memory.
+    #[tactic(auto, using(crate::specs::Conserves::times_ended))]
     pub fn complete(&mut self, ticket: Ticket, end: End)
-        ensures { self.new ≡ completed self.old ticket end }
+        ensures after { self.new ≡ completed self.old ticket end }
+        ensures keeps { Keeps self.old self.new }
     {
         let Some(i) = index_of(&self.pending, ticket) else {
             return;
@@ -161,8 +174,10 @@ impl<T: Drop> Book<T> {
     }
 
     /// As `complete`, with another work.
+    #[tactic(auto, using(crate::specs::Conserves::times_ended))]
     pub fn complete_with(&mut self, ticket: Ticket, end: End, work: T)
-        ensures { self.new ≡ completed_with self.old ticket end work }
+        ensures after { self.new ≡ completed_with self.old ticket end work }
+        ensures keeps { Keeps self.old self.new }
     {
         let Some(i) = index_of(&self.pending, ticket) else {
             return;
@@ -173,8 +188,10 @@ impl<T: Drop> Book<T> {
     }
 
     /// Every pending token of the child ends as aborted, by rising ticket. It takes no memory.
+    #[tactic(auto, using(crate::specs::Conserves::times_aborted))]
     pub fn abort_child(&mut self, child: ChildId)
-        ensures { self.new ≡ child_aborted self.old child }
+        ensures after { self.new ≡ child_aborted self.old child }
+        ensures keeps { Keeps self.old self.new }
     {
         abort_of(
             &mut self.pending,
@@ -185,8 +202,10 @@ impl<T: Drop> Book<T> {
     }
 
     /// Every pending token of the owner ends as aborted, by rising ticket. It takes no memory.
+    #[tactic(auto, using(crate::specs::Conserves::times_aborted))]
     pub fn abort_owner(&mut self, owner: Owner)
-        ensures { self.new ≡ owner_aborted self.old owner }
+        ensures after { self.new ≡ owner_aborted self.old owner }
+        ensures keeps { Keeps self.old self.new }
     {
         abort_of(
             &mut self.pending,
@@ -197,10 +216,12 @@ impl<T: Drop> Book<T> {
     }
 
     /// The child's pending token ends as aborted. It takes no memory.
+    #[tactic(auto, using(crate::specs::Conserves::times_ended))]
     pub fn cancel(&mut self, child: ChildId, ticket: Ticket) -> Result<(), Refuse>
         ensures answer { RefusesExactly (cancel_refusal self.old child ticket) result }
         ensures after { self.new ≡ cancelled self.old child ticket }
         ensures err { OnErr result (self.new ≡ self.old) }
+        ensures keeps { Keeps self.old self.new }
     {
         let Some(i) = index_of_childs(&self.pending, child, ticket) else {
             return Err(Refuse::NotFound);
@@ -211,10 +232,12 @@ impl<T: Drop> Book<T> {
     }
 
     /// A caller's pending token on the child ends as aborted. It takes no memory.
+    #[tactic(auto, using(crate::specs::Conserves::times_ended))]
     pub fn cancel_token(&mut self, child: ChildId, token: TokenId) -> Result<(), Refuse>
         ensures answer { RefusesExactly (token_refusal self.old child token) result }
         ensures after { self.new ≡ token_cancelled self.old child token }
         ensures err { OnErr result (self.new ≡ self.old) }
+        ensures keeps { Keeps self.old self.new }
     {
         let Some(i) = index_of_token(&self.pending, child, token) else {
             return Err(Refuse::NotFound);
@@ -241,9 +264,11 @@ impl<T: Drop> Book<T> {
     }
 
     /// Gives the pending token another work, and the old one back.
+    #[tactic(auto, using(crate::specs::Conserves::times_put))]
     pub fn put_work(&mut self, ticket: Ticket, work: T) -> Option<T>
         ensures after { self.new ≡ work_put self.old ticket work }
         ensures old { result ≡ work_of self.old ticket }
+        ensures keeps { Keeps self.old self.new }
     {
         let i = index_of(&self.pending, ticket)?;
         let p = &mut self.pending[i];
@@ -251,19 +276,23 @@ impl<T: Drop> Book<T> {
     }
 
     /// The caller's token that ended first. It takes no memory.
+    #[tactic(auto, using(crate::specs::Conserves::times_taken))]
     pub fn take_done(&mut self) -> Option<Done<T>>
         ensures first { result ≡ slice_get self.old.done 0 }
         ensures some { IfSome result (λ _. self.new ≡ without_done self.old) }
         ensures none { IfNone result (self.new ≡ self.old) }
+        ensures keeps { (o : OwnerValue) → times o self.new + given o result ≡ times o self.old }
     {
         self.done.pop_front()
     }
 
     /// The token of a driver above that ended first. It takes no memory.
+    #[tactic(auto, using(crate::specs::Conserves::times_taken_up))]
     pub fn take_up(&mut self) -> Option<Raised<T>>
         ensures first { result ≡ slice_get self.old.ups 0 }
         ensures some { IfSome result (λ _. self.new ≡ without_up self.old) }
         ensures none { IfNone result (self.new ≡ self.old) }
+        ensures keeps { (o : OwnerValue) → times o self.new + given_up o result ≡ times o self.old }
     {
         self.ups.pop_front()
     }

@@ -1,6 +1,6 @@
 //! Tokens that are pending, those that have ended, and the step from one to the other. The book that holds them
 //! isn't here.
-ghost use Rattle.std.specs.Prelude.{◌≡◌, ℕ, ◌+◌, ◌<◌, ◌≤◌, ◌++◌, length, count_by, filter, IfSome, vec_len, vec_capacity};
+ghost use Rattle.std.specs.Prelude.{◌≡◌, ℕ, ◌+◌, ◌<◌, ◌≤◌, ◌++◌, length, count_by, nat_le, filter, IfSome, vec_len, vec_capacity};
 ghost use Rattle.std.specs.VecDeque.{deque_len, deque_capacity};
 ghost use Rattle.std.specs.List.{position};
 ghost use Rattle.efi_book.specs.Owners.{is_users, same_owner, proto_number};
@@ -8,6 +8,9 @@ ghost use Rattle.efi_book.specs.Pendings.{is_of, is_at, is_childs, is_token, is_
 
 use efi_base::{ChildId, End, Owner, Proto, Ticket, TokenId};
 use std::collections::VecDeque;
+
+/// How many tokens of callers may be pending on one child.
+pub const TOKENS: usize = 64;
 
 /// A token that has not ended.
 #[derive(Drop)]
@@ -151,10 +154,17 @@ pub fn index_of_kind<T: Kinded>(pending: &[Pending<T>], child: ChildId, kind: u3
 }
 
 // How many tokens of the child are pending.
-pub fn count_of<T>(pending: &[Pending<T>], child: ChildId) -> usize
+fn count_of<T>(pending: &[Pending<T>], child: ChildId) -> usize
     ensures { result ≡ count_by (is_of child) pending.now }
 {
     pending.iter().filter(|p| p.child == child).count()
+}
+
+// Whether as many tokens of the child are pending as may be. They aren't counted where all children together have fewer.
+pub fn is_full<T>(pending: &[Pending<T>], child: ChildId) -> bool
+    ensures { result ≡ nat_le 64 (count_by (is_of child) pending.now) }
+{
+    pending.len() >= TOKENS && count_of(pending, child) >= TOKENS
 }
 
 // A token that ends goes to its exit: the callers', or that of the driver above.

@@ -14,13 +14,12 @@ mod ends;
 mod laws;
 // messages for the layer below
 mod outbox;
+// children in slots under keys
+mod table;
 
-pub use book::{Book, TOKENS};
+pub use book::Book;
 pub use children::{CHILDREN, Child, Children, Handle, OWN_CHILDREN};
 pub use driver::Core;
-pub use ends::{Done, Kinded, Pending, Raised};
+pub use ends::{Done, Kinded, Pending, Raised, TOKENS};
 pub use laws::{a_stop_ends_the_childs_alone, each_token_is_once, nothing_else_aborts};
 pub use outbox::Outbox;
-
-#[cfg(test)]
-mod tests;

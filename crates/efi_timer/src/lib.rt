@@ -5,6 +5,3 @@
 mod timers;
 
 pub use timers::{Timer, Timers};
-
-#[cfg(test)]
-mod tests;

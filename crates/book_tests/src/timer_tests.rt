@@ -1,6 +1,6 @@
 //! Moments on a case from outside.
-use crate::Timers;
 use efi_base::Tick;
+use efi_timer::Timers;
 use std::test::Fail;
 
 #[test]

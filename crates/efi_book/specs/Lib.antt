@@ -26,3 +26,7 @@ pub mod ActLaws
 pub mod Aborts
 -- nothing but an abort ends a token as aborted
 pub mod Others
+-- what a driver does with its core, and which acts each call is
+pub mod Calls
+-- the law of a driver that is made of a core
+pub mod Drivers

@@ -21,5 +21,9 @@ pub use book::Book;
 pub use children::{CHILDREN, Child, Children, Handle, OWN_CHILDREN};
 pub use driver::Core;
 pub use ends::{Done, Kinded, Pending, Raised, TOKENS};
-pub use laws::{a_stop_ends_the_childs_alone, each_token_is_once, nothing_else_aborts};
+pub use laws::{
+    a_drivers_stop_ends_the_childs_alone, a_drivers_token_is_once, a_stop_ends_the_childs_alone,
+    calls_are_acts_of_the_book, each_token_is_once, nothing_else_aborts,
+    nothing_else_aborts_in_a_driver,
+};
 pub use outbox::Outbox;

@@ -1,32 +1,32 @@
 -- the first element of a list that passes a test
 pub mod Firsts
--- to whom a token belongs
+-- to whom a token belongs: a caller, or a driver above
 pub mod Owners
--- single tokens: which are meant, and where they go when they end
+-- words on single tokens: which are meant, and where they go when they end
 pub mod Pendings
--- books, and what each call leaves of one
+-- what a contract sees of a book
 pub mod Books
--- no call loses or doubles a token
+-- no call loses or doubles a token, by whatever it is told apart: its ticket, its child, its owner
 pub mod Conserves
--- how a table keeps children under keys
+-- how a table keeps children: a slot for each key, and the keys in the order of making
 pub mod Tables
--- children under handles
+-- what a contract sees of the children of a driver
 pub mod Families
--- messages that wait
+-- what a contract sees of an outbox
 pub mod Outboxes
 -- what every driver's calls answer and leave
 pub mod Cores
 -- the core of a driver as contracts see it
 pub mod Drives
--- what may happen to a book
+-- what may happen to a book, one act after another
 pub mod Acts
 -- numbers, and each token once, over any list of acts
 pub mod ActLaws
--- what a stop of a child does, over any list of acts
+-- the abort law of a book, over any list of acts
 pub mod Aborts
 -- nothing but an abort ends a token as aborted
 pub mod Others
--- what a driver does with its core, and which acts each call is
+-- what a driver does with its core, call by call, and which acts of the book each call is
 pub mod Calls
--- the law of a driver that is made of a core
+-- what a driver inherits that is made of a core
 pub mod Drivers

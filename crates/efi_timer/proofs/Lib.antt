@@ -1,1 +1,2 @@
+-- of three timers it doesn't matter which two are compared first
 pub mod Orders

@@ -1,0 +1,11 @@
+-- No row so far says so.
+use Rattle.std.proofs.Common.{◌≡◌}
+use Rattle.wire_dns.specs.Found.{of_name, address_in}
+use Rattle.wire_dns.specs.Rows.{list_of}
+use Rattle.wire_dns.proofs.found.address_of.Given as goal
+
+abbrev pub invariant-loop-row : goal.invariant-loop-row
+invariant-loop-row l = of_name address_in l.name (list_of l.rest) ≡ of_name address_in l.name (list_of l.rows)
+
+abbrev pub decreases-loop-row : goal.decreases-loop-row
+decreases-loop-row l = l.rest.left

@@ -1,3 +1,5 @@
+-- labels, as they are written
+pub mod Labels
 -- options, and choices by tests
 pub mod Options
 -- runs of labels, one after the other, and the pointers between them
@@ -6,3 +8,5 @@ pub mod Runs
 pub mod Spelling
 -- records and rows, one after the other
 pub mod Walks
+-- messages, as they are written
+pub mod Written

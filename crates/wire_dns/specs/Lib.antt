@@ -8,3 +8,7 @@ pub mod Names
 pub mod Parts
 -- rows of a message (RFC 1035, sections 3.2.1 and 4.1.3): resource records of class IN and of the types A, CNAME and PTR
 pub mod Rows
+-- the octets of names, queries and answers (RFC 1035, section 4.1), without pointers
+pub mod Spelling
+-- what is left of a name while it is written, label by label
+pub mod Left

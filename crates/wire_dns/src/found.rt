@@ -206,14 +206,9 @@ fn pointer_of(rows: Rows<'_>, name: &[u8]) -> Option<Name>
 fn address_by(row: Row, name: &[u8]) -> Option<TimedAddress>
     ensures { result ≡ said_by address_in name.now row }
 {
-    if !is_same(row.name.as_slice(), name) {
-        return None;
-    }
+    let is_of_name = is_same(row.name.as_slice(), name);
     match row.value {
-        RowValue::At(ip) => {
-            if !is_unicast(ip) {
-                return None;
-            }
+        RowValue::At(ip) if is_of_name && is_unicast(ip) => {
             Some(TimedAddress { ip, secs: row.secs })
         }
         _ => None,

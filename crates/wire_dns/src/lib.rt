@@ -12,6 +12,8 @@ mod message;
 mod names;
 // a row as its readers see it
 mod row;
+// queries and answers as octets
+mod writing;
 
 pub use found::{
     Found, FoundName, TimedAddress, address, address_said, is_answer_to, name_said, pointer,
@@ -20,3 +22,4 @@ pub use found::{
 pub use message::{Answer, Query, read_answer, read_query};
 pub use names::read_name;
 pub use row::{Row, RowValue};
+pub use writing::{write_answer, write_query};

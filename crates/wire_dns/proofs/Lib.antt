@@ -10,3 +10,9 @@ pub mod Spelling
 pub mod Walks
 -- messages, as they are written
 pub mod Written
+-- A name and a question that were written are read again
+pub mod Again
+-- the name of an address can be written
+pub mod Reverse
+-- A header and a question that were written are read again
+pub mod AskedAgain

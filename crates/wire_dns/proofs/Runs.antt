@@ -1,7 +1,7 @@
 -- Runs of labels, one after the other, and the pointers between them.
-use Rattle.std.proofs.Common.{◌≡◌, ℕ, zero, suc, ◌+◌, ◌<◌, ◌≤◌, ◌==◌, ◌⊎◌, inl, inr, Bool, true, false, nat_le, List, [], ◌∷◌, ◌++◌, length, take, drop, Option, Some, None, if◌then◌else◌, refl, sym, ap, ◌∙◌, arith, length-append}
+use Rattle.std.proofs.Common.{◌≡◌, ℕ, zero, suc, ◌+◌, ◌<◌, ◌≤◌, ◌==◌, ◌⊎◌, inl, inr, nat_le, List, [], ◌∷◌, ◌++◌, length, drop, Option, Some, None, refl, sym, ap, ◌∙◌, arith, length-append}
 use Rattle.std.proofs.lemmas.Bool.Decides.{nat_tests}
-use Rattle.std.proofs.lemmas.List.{drop-drop, length-drop, append-nil}
+use Rattle.std.proofs.lemmas.List.{drop-drop, append-nil}
 use Rattle.std.specs.Option.{option_map, option_and_then}
 use Rattle.wire_dns.specs.Names.{spelled, spelled_size, earlier, kept, name_at, behind_name, name_read}
 use Rattle.wire_dns.specs.Parts.{Ends, Begins, Leads, followed, tail_of, NoName}

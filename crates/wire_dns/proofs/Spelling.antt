@@ -1,5 +1,5 @@
 -- A zero, a label or a pointer in front of the octets behind it.
-use Rattle.std.proofs.Common.{◌≡◌, ◌≢◌, ℕ, zero, suc, ◌+◌, ◌-◌, ◌%◌, ◌<◌, ◌≤◌, ◌==◌, Bool, true, false, nat_le, nat_lt, List, [], ◌∷◌, ◌++◌, length, get_or, take, drop, Option, Some, None, if◌then◌else◌, refl, sym, ap, ◌∙◌, add-one, arith}
+use Rattle.std.proofs.Common.{◌≡◌, ℕ, zero, suc, ◌+◌, ◌-◌, ◌%◌, ◌<◌, ◌≤◌, ◌==◌, Bool, true, false, nat_lt, List, [], ◌∷◌, length, get_or, take, drop, Option, None, if◌then◌else◌, refl, sym, ap, ◌∙◌, arith}
 use Rattle.std.proofs.lemmas.Bool.Decides.{nat_tests}
 use Rattle.std.specs.Option.{option_map}
 use Rattle.byteorder.specs.Endian.{big_number}
@@ -9,7 +9,7 @@ use Rattle.std.proofs.lemmas.List.{length-take}
 use Rattle.wire_dns.proofs.Options.{if-true, if-false, followed-twice, followed-nothing}
 
 -- the octets of a label, and what follows them
-label-more : (led : ℕ → Option (List ℕ)) (n : ℕ) (octets : List ℕ) → n ≤ length octets
+pub label-more : (led : ℕ → Option (List ℕ)) (n : ℕ) (octets : List ℕ) → n ≤ length octets
     → spelled led n octets ≡ followed (take n octets) (spelled led zero (drop n octets))
 unfolding spelled
 label-more led zero octets h = sym (followed-nothing (spelled led zero octets))
@@ -23,7 +23,7 @@ label-short led zero octets h = absurd (omega arith)
 label-short led (suc n) [] h = refl
 label-short led (suc n) (c ∷ octets) h = ap (followed (c ∷ [])) (label-short led n octets (omega arith))
 
-label-size : (n : ℕ) (octets : List ℕ) → n ≤ length octets → spelled_size n octets ≡ n + spelled_size zero (drop n octets)
+pub label-size : (n : ℕ) (octets : List ℕ) → n ≤ length octets → spelled_size n octets ≡ n + spelled_size zero (drop n octets)
 unfolding spelled_size
 label-size zero octets h = grind arith
 label-size (suc n) [] h = absurd (omega arith)
@@ -39,12 +39,12 @@ not-less : (c n : ℕ) → n ≤ c → nat_lt c n ≡ false
 not-less c n h = grind (arith, nat_tests)
 
 -- the octet is a label's length
-in-label : (led : ℕ → Option (List ℕ)) (c : ℕ) (octets : List ℕ) → 0 < c → c < 64
+pub in-label : (led : ℕ → Option (List ℕ)) (c : ℕ) (octets : List ℕ) → 0 < c → c < 64
     → spelled led zero (c ∷ octets) ≡ option_map (λ text. 46 ∷ text) (spelled led c octets)
 unfolding spelled
 in-label led c octets some short = if-false (c == 0) _ _ (not-zero c some) ∙ if-true (nat_lt c 64) _ _ (is-less c 64 short)
 
-in-label-size : (c : ℕ) (octets : List ℕ) → 0 < c → c < 64 → spelled_size zero (c ∷ octets) ≡ suc (spelled_size c octets)
+pub in-label-size : (c : ℕ) (octets : List ℕ) → 0 < c → c < 64 → spelled_size zero (c ∷ octets) ≡ suc (spelled_size c octets)
 unfolding spelled_size
 in-label-size c octets some short = if-false (c == 0) _ _ (not-zero c some) ∙ if-true (nat_lt c 64) _ _ (is-less c 64 short)
 

@@ -1,8 +1,6 @@
 -- Records and rows, one after the other.
-use Rattle.std.proofs.Common.{◌≡◌, ℕ, zero, suc, ◌+◌, ◌-◌, ◌<◌, ◌≤◌, ◌&&◌, Bool, true, false, List, [], ◌∷◌, Option, Some, None, is_some, refl, sym, ap, ◌∙◌, arith, Result, Ok, Err}
-use Rattle.std.specs.Option.{option_map, option_flatten, unwrap_or}
-use Rattle.efi_base.specs.Reads.{ReadsAs}
-use Rattle.efi_base.specs.declared.fault.Bad.{Bad}
+use Rattle.std.proofs.Common.{◌≡◌, ℕ, zero, suc, ◌+◌, ◌-◌, ◌<◌, ◌≤◌, ◌&&◌, true, false, List, [], Option, Some, None, is_some, refl, sym, ap, ◌∙◌, arith}
+use Rattle.std.specs.Option.{option_map, unwrap_or}
 use Rattle.wire_dns.specs.declared.entry.Entry.{Entry}
 use Rattle.wire_dns.specs.declared.row.Row.{Row}
 use Rattle.wire_dns.specs.declared.row.RowValue.{RowValue}

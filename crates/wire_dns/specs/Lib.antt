@@ -12,3 +12,5 @@ pub mod Rows
 pub mod Spelling
 -- what is left of a name while it is written, label by label
 pub mod Left
+-- the questions of a station: the address of a name, and the name of an address (RFC 1035, section 3.5)
+pub mod Questions

@@ -6,10 +6,14 @@
 mod entry;
 // what an answer says of a name
 mod found;
+// what holds of the format
+mod laws;
 // queries and answers
 mod message;
 // names in a message
 mod names;
+// the questions of a station
+mod question;
 // a row as its readers see it
 mod row;
 // queries and answers as octets
@@ -19,7 +23,9 @@ pub use found::{
     Found, FoundName, TimedAddress, address, address_said, is_answer_to, name_said, pointer,
     timed_address,
 };
+pub use laws::written_query_is_read_again;
 pub use message::{Answer, Query, read_answer, read_query};
 pub use names::read_name;
+pub use question::{address_question, pointer_question};
 pub use row::{Row, RowValue};
 pub use writing::{write_answer, write_query};

@@ -1,5 +1,5 @@
 -- Each step leads from a name to the next.
-use Rattle.std.proofs.Common.{sym, ◌∙◌, ap, arith, lit<}
+use Rattle.std.proofs.Common.{sym, ◌∙◌, ap, arith}
 use Rattle.wire_dns.specs.Found.{of_name, alias_in}
 use Rattle.wire_dns.specs.Rows.{list_of}
 use Rattle.wire_dns.proofs.Walks.{stays, leads-on, arrives}

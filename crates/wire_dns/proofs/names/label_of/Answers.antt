@@ -1,6 +1,5 @@
 -- The label stands behind its length, or is cut short.
-use Rattle.std.proofs.Common.{arith, get_or, ◌≡◌, take, drop, ◌+◌, ◌-◌, ap, refl, subst}
-use Rattle.wire_dns.specs.Parts.{Begins}
+use Rattle.std.proofs.Common.{arith, ◌≡◌, ◌+◌, ◌-◌}
 use Rattle.wire_dns.proofs.Spelling.{label-begins, label-cut}
 use Rattle.wire_dns.proofs.names.label_of.Goals as goal
 

@@ -1,5 +1,5 @@
 -- Nothing stands behind the message.
-use Rattle.std.proofs.Common.{◌≤◌, length, drop, arith}
+use Rattle.std.proofs.Common.{drop, arith}
 use Rattle.std.proofs.lemmas.List.{length-drop}
 use Rattle.wire_dns.proofs.Spelling.{nothing-there}
 use Rattle.wire_dns.proofs.names.part_at.Goals as goal

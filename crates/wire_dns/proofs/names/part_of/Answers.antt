@@ -1,5 +1,5 @@
 -- The first octet tells what stands there.
-use Rattle.std.proofs.Common.{arith, rules, refl}
+use Rattle.std.proofs.Common.{rules, refl}
 use Rattle.wire_dns.proofs.Spelling.{nothing-there, zero-ends, octet-bad, pointer-cut, pointer-leads}
 use Rattle.wire_dns.proofs.names.part_of.Goals as goal
 use Rattle.wire_dns.proofs.names.part_of.Goals.{then-first-lt-POINTERS-via-then-first-lt-POINTERS, then-first-lt-POINTERS-via-else-first-lt-POINTERS+then-octets-lt2}

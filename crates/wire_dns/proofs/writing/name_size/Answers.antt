@@ -1,5 +1,5 @@
 -- Each dot is a length's octet, and there is one more in front, and a zero behind.
-use Rattle.std.proofs.Common.{length, ap, ◌∙◌, sym, ◌+◌}
+use Rattle.std.proofs.Common.{length, ap, ◌∙◌, ◌+◌}
 use Rattle.wire_dns.proofs.Labels.{name-length, empty-length}
 use Rattle.wire_dns.proofs.writing.name_size.Goals as goal
 

@@ -1,5 +1,5 @@
 -- The labels one after the other.
-use Rattle.std.proofs.Common.{◌≡◌, ◌<◌, ◌≤◌, ◌++◌, length, length-append, sym, ap, ◌∙◌, arith, rules}
+use Rattle.std.proofs.Common.{◌<◌, ◌≤◌, ◌++◌, length, length-append, sym, ap, ◌∙◌, arith, rules}
 use Rattle.wire_dns.specs.Spelling.{name_text}
 use Rattle.wire_dns.proofs.Labels.{empty-text, name-start, start-fits, name-full}
 use Rattle.wire_dns.proofs.writing.put_name.Goals as goal

@@ -1,5 +1,5 @@
 -- A row that doesn't fit is one too many.
-use Rattle.std.proofs.Common.{◌≡◌, ◌<◌, ◌++◌, length, length-append, sym, arith}
+use Rattle.std.proofs.Common.{◌<◌, ◌++◌, length, length-append, sym, arith}
 use Rattle.wire_dns.specs.Spelling.{rows_text}
 use Rattle.wire_dns.proofs.Written.{rows-full}
 use Rattle.wire_dns.proofs.writing.put_rows.Goals as goal

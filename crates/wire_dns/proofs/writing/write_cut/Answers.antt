@@ -1,5 +1,4 @@
 -- A question alone always fits.
-use Rattle.std.proofs.Common.{sym}
 use Rattle.wire_dns.proofs.Written.{question-fits}
 use Rattle.wire_dns.proofs.writing.write_cut.Goals as goal
 

@@ -1,0 +1,20 @@
+//! The messages of DHCP (RFC 2131, with the options of RFC 2132), read and written, and what one message says to a station.
+//! Which message comes when is a driver's affair.
+#![tactic(auto)]
+
+// which offer a station takes
+mod choosing;
+// leases
+mod lease;
+// messages: fixed fields and options
+mod message;
+// options one behind the other
+mod options;
+// what a message says to a station
+mod says;
+
+pub use choosing::{Choice, ChooseRule, choice_of};
+pub use lease::{Lease, read_lease};
+pub use message::{Dhcp, DhcpFixed, read_dhcp};
+pub use options::DhcpOption;
+pub use says::{Offer, Reply, read_reply};

@@ -1,0 +1,8 @@
+-- segments in flight are cuts of what is kept
+pub mod Cuts
+-- A part of a list that stands in two pieces
+pub mod Pieces
+-- the rows as a table: from the fourth on they are 8,000 ticks apart
+pub mod RowTable
+-- what is true of each sender stays true
+pub mod Senders

@@ -6,3 +6,5 @@ pub mod Pieces
 pub mod RowTable
 -- what is true of each sender stays true
 pub mod Senders
+-- each segment is a true cut of what was pushed
+pub mod TrueCuts

@@ -62,7 +62,7 @@ good-pushed s kept good more le most =
       ended = λ fin. let is : IsTrue s.finished = good.finished fin in absurd (cc);
     }
 
-ends-with : (s : Sender) (most : ℕ) → IsTrue (first_cut s most).fin → unsent_of s ≤ most
+pub ends-with : (s : Sender) (most : ℕ) → IsTrue (first_cut s most).fin → unsent_of s ≤ most
 ends-with s most fin = grind (arith, nat_tests)
 
 goes-again : (s : Sender) (most : ℕ) → IsSender s → IsTrue s.fin_sent → (first_cut s most).fin ≡ true

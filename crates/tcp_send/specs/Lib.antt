@@ -10,3 +10,5 @@ pub mod Flight
 pub mod Sender
 -- what a contract sees of a sender, and what is true of each
 pub mod Inside
+-- the text that is sent, and its true cuts
+pub mod Stream

@@ -1,6 +1,6 @@
 //! When what isn't acknowledged goes again: at rows of ticks, whose distance doubles to at most 8,000 (RFC 6298, section 5,
 //! with fixed numbers).
-ghost use Rattle.std.specs.Prelude.{◌≡◌, ◌≤◌};
+ghost use Rattle.std.specs.Prelude.{◌≡◌, ◌^◌, ◌<◌, ◌≤◌};
 ghost use Rattle.tcp_send.specs.Rows.{row_at, is_row, row_tick, started};
 
 use efi_base::Tick;
@@ -51,7 +51,7 @@ impl Backoff {
 fn row_at(passed: u8) -> u64
     ensures at { result ≡ row_at passed }
     ensures least { 1000 ≤ result }
-    ensures bound { result ≤ 2031000 }
+    ensures bound { result < 2 ^ 32 }
 {
     match passed {
         0 => 1_000,

@@ -1,8 +1,9 @@
 //! The sender.
-ghost use Rattle.std.specs.Prelude.{◌≡◌, ◌+◌, ◌-◌, ◌^◌, ◌<◌, ◌≤◌, ◌==◌, ◌&&◌, IfOk, if◌then◌else◌, true, nat_lt, length, min};
+ghost use Rattle.std.specs.Prelude.{◌≡◌, ◌+◌, ◌-◌, ◌^◌, ◌<◌, ◌≤◌, ◌==◌, ◌&&◌, ℕ, List, IfOk, IfSome, if◌then◌else◌, true, nat_lt, length, min};
 ghost use Rattle.tcp_send.specs.Flight.{fin_number, octets_of};
 ghost use Rattle.tcp_send.specs.Numbers.{number_of};
-ghost use Rattle.tcp_send.specs.Sender.{Sender, fresh, pushed_of, sent_of, unsent_of, next_place, passed_of, has_given_up, is_open, has_more, waits, restarted, push_count, after_push, after_finish, after_begin, ahead_of, counts, acknowledged, is_idle, after_heard, after_ack, after_bare_ack, is_due, in_flight, may_send, first_cut, cut_at, with_sent, row_passed, row_cut, after_row, new_segment, after_new, settled, cut_now, after_now, next_tick};
+ghost use Rattle.tcp_send.specs.Stream.{Keeps, IsTrueCut};
+ghost use Rattle.tcp_send.specs.Sender.{Sender, IsSender, fresh, pushed_of, sent_of, unsent_of, next_place, passed_of, has_given_up, is_open, has_more, waits, restarted, push_count, after_push, after_finish, after_begin, ahead_of, counts, acknowledged, is_idle, after_heard, after_ack, after_bare_ack, is_due, in_flight, may_send, first_cut, cut_at, with_sent, row_passed, row_cut, after_row, new_segment, after_new, settled, cut_now, after_now, next_tick};
 
 use crate::backoff::{Backoff, SEGMENT_ROWS};
 use crate::flight::{MOST_SEGMENTS, Segment, fin_number, first_of, octets_of, release};
@@ -132,6 +133,8 @@ impl Send {
     /// The segment that goes now. An event is over once this call answered that none does; only then `next` is right.
     pub fn next_segment(&mut self, now: Tick) -> Option<Cut>
         ensures cut { result ≡ cut_now self.old now }
+        ensures sound { IsSender self.old }
+        ensures true_cut { (text : List ℕ) → Keeps text self.old → IfSome result (IsTrueCut text self.old.finished) }
         ensures sender { self.new ≡ after_now self.old now }
     {
         if !self.is_open() {
@@ -238,7 +241,8 @@ impl Send {
     }
 
     fn is_open(&self) -> bool
-        ensures { result ≡ is_open self.now }
+        ensures answer { result ≡ is_open self.now }
+        ensures sound { IsSender self.now }
     {
         self.m > 0 && !self.given_up()
     }

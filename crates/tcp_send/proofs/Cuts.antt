@@ -1,5 +1,5 @@
 -- Segments in flight are cuts of what is kept.
-use Rattle.std.proofs.Common.{◌≡◌, ◌≤◌, ◌<◌, ℕ, zero, suc, ◌+◌, ◌-◌, Bool, true, false, IsTrue, nat_le, List, [], ◌∷◌, ◌++◌, length, slice_get, Option, Some, None, refl, sym, ap, subst, ◌∙◌, arith, inl, inr}
+use Rattle.std.proofs.Common.{◌≡◌, ◌≤◌, ◌<◌, ℕ, ◌+◌, ◌-◌, Bool, true, false, IsTrue, nat_le, List, [], ◌∷◌, ◌++◌, slice_get, Some, None, refl, subst, arith, inl, inr}
 use Rattle.std.specs.Prelude.{if◌then◌else◌}
 use Rattle.tcp_send.specs.declared.flight.Segment.{Segment}
 use Rattle.tcp_send.specs.Flight.{Flight, IsCutFrom, AreCutFrom, octets_of, left_of, fin_number}

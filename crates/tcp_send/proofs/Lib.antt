@@ -8,3 +8,11 @@ pub mod RowTable
 pub mod Senders
 -- each segment is a true cut of what was pushed
 pub mod TrueCuts
+-- what a sender is after each kind of call
+pub mod Steps
+-- what is true after any calls, one call after the other
+pub mod Courses
+-- what goes at rows, and what goes between them
+pub mod TickLaw
+-- the place that an acknowledgment names has its number
+pub mod Named

@@ -1,5 +1,5 @@
 -- A part of a list that stands in two pieces.
-use Rattle.std.proofs.Common.{◌≡◌, ◌≤◌, ℕ, zero, suc, ◌+◌, ◌-◌, List, [], ◌∷◌, ◌++◌, length, take, drop, refl, sym, ap, ◌∙◌, arith}
+use Rattle.std.proofs.Common.{◌≡◌, ℕ, zero, suc, ◌-◌, List, [], ◌∷◌, ◌++◌, length, take, drop, refl, sym, ap, ◌∙◌, arith}
 
 pub take-two : {X : Type 0} (count : ℕ) (front back : List X) → take count (front ++ back) ≡ take count front ++ take (count - length (take count front)) back
 take-two zero front back = refl

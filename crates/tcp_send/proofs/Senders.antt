@@ -1,7 +1,7 @@
 -- What is true of each sender stays true.
-use Rattle.std.proofs.Common.{◌≡◌, ◌≤◌, ◌<◌, ℕ, ◌+◌, ◌-◌, ◌^◌, Bool, true, false, IsTrue, List, [], ◌∷◌, ◌++◌, length, drop, refl, sym, ap, subst, ◌∙◌, arith, length-drop, length-append}
+use Rattle.std.proofs.Common.{◌≡◌, ◌≤◌, ℕ, ◌+◌, ◌-◌, ◌^◌, Bool, true, false, IsTrue, List, [], ◌∷◌, ◌++◌, length, drop, refl, sym, ap, subst, ◌∙◌, arith, length-drop}
 use Rattle.tcp_send.specs.declared.flight.Segment.{Segment}
-use Rattle.tcp_send.specs.Flight.{AreCutFrom, IsCutFrom, octets_of, left_of, fin_number}
+use Rattle.tcp_send.specs.Flight.{AreCutFrom, octets_of, left_of, fin_number}
 use Rattle.std.specs.Prelude.{◌==◌, Some, nat_le}
 use Rattle.std.proofs.lemmas.Bool.Decides.{nat_tests}
 use Rattle.tcp_send.specs.Sender.{Sender, IsSender, next_place, unsent_of, first_cut, passed_of, row_cut, cut_at, sent_of, after_row, with_sent, row_passed}

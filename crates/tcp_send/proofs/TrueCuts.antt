@@ -1,13 +1,13 @@
 -- Each segment is a true cut of what was pushed.
-use Rattle.std.proofs.Common.{◌≡◌, ◌≤◌, ◌<◌, ℕ, zero, suc, ◌+◌, ◌-◌, min, Bool, true, false, IsTrue, List, [], ◌∷◌, ◌++◌, length, take, drop, Option, Some, None, slice_get, refl, sym, ap, subst, ◌∙◌, arith, length-drop, inl, inr}
-use Rattle.std.specs.Prelude.{if◌then◌else◌, IfSome, nat_le, nat_lt, ◌==◌, not, ◌&&◌, option_map}
+use Rattle.std.proofs.Common.{◌≡◌, ◌≤◌, ℕ, ◌+◌, ◌-◌, min, Bool, true, false, IsTrue, List, [], ◌∷◌, length, take, drop, Option, Some, None, slice_get, refl, sym, ap, subst, ◌∙◌, arith, length-drop}
+use Rattle.std.specs.Prelude.{if◌then◌else◌, IfSome, ◌==◌, not, option_map}
 use Rattle.std.proofs.lemmas.List.{length-take-le, drop-drop}
 use Rattle.std.proofs.lemmas.Bool.Decides.{nat_tests}
 use Rattle.tcp_send.specs.declared.flight.Segment.{Segment}
 use Rattle.tcp_send.specs.declared.text.Cut.{Cut}
 use Rattle.efi_base.specs.declared.plain.Tick.{Tick}
-use Rattle.tcp_send.specs.Flight.{AreCutFrom, IsCutFrom, octets_of}
-use Rattle.tcp_send.specs.Sender.{Sender, IsSender, pushed_of, sent_of, unsent_of, first_cut, cut_at, row_cut, new_segment, cut_now, passed_of, is_open, is_due, may_send, in_flight}
+use Rattle.tcp_send.specs.Flight.{AreCutFrom, IsCutFrom}
+use Rattle.tcp_send.specs.Sender.{Sender, IsSender, pushed_of, sent_of, first_cut, cut_at, row_cut, new_segment, cut_now, passed_of, is_open, is_due, may_send, in_flight}
 use Rattle.tcp_send.specs.Stream.{Keeps, IsTrueCut}
 use Rattle.tcp_send.proofs.Senders.{ends-with}
 

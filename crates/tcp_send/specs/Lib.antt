@@ -12,3 +12,7 @@ pub mod Sender
 pub mod Inside
 -- the text that is sent, and its true cuts
 pub mod Stream
+-- A sender after any list of calls
+pub mod Calls
+-- between two rows nothing is sent again
+pub mod Ticks

@@ -1,5 +1,5 @@
 -- The sender: facts of the past from which it follows what is sent when.
-use Rattle.std.specs.Prelude.{◌≡◌, ℕ, ◌+◌, ◌-◌, ◌^◌, ◌==◌, ◌<◌, ◌≤◌, ◌&&◌, ◌||◌, min, not, Bool, true, false, IsTrue, nat_le, nat_lt, List, [], ◌∷◌, ◌++◌, length, take, drop, Option, Some, None, if◌then◌else◌, slice_get, option_map, is_none}
+use Rattle.std.specs.Prelude.{◌≡◌, ℕ, ◌+◌, ◌-◌, ◌^◌, ◌==◌, ◌≤◌, ◌&&◌, ◌||◌, min, not, Bool, true, false, IsTrue, nat_le, nat_lt, List, [], ◌∷◌, ◌++◌, length, take, drop, Option, Some, None, if◌then◌else◌, slice_get, option_map, is_none}
 use Rattle.std.specs.Option.{option_map_or, option_and_then}
 use Rattle.efi_base.specs.declared.plain.Tick.{Tick}
 use Rattle.tcp_send.specs.declared.backoff.Backoff.{Backoff}

@@ -1,5 +1,5 @@
 -- The text that is sent, and its true cuts.
-use Rattle.std.specs.Prelude.{◌≡◌, ℕ, ◌+◌, ◌≤◌, Bool, IsTrue, List, ◌++◌, length, take, drop}
+use Rattle.std.specs.Prelude.{◌≡◌, ℕ, ◌+◌, ◌≤◌, Bool, IsTrue, List, length, take, drop}
 use Rattle.tcp_send.specs.declared.text.Cut.{Cut}
 use Rattle.tcp_send.specs.Sender.{Sender}
 

@@ -7,6 +7,8 @@
 mod backoff;
 // segments in flight
 mod flight;
+// what holds for every list of calls
+mod laws;
 // places and sequence numbers
 mod numbers;
 // the peer's window
@@ -18,6 +20,10 @@ mod text;
 
 pub use backoff::{Backoff, SEGMENT_ROWS, SYN_ROWS};
 pub use flight::Segment;
+pub use laws::{
+    acknowledgments_name_places, calls_give_true_cuts, rows_double, segments_go_again_at_rows,
+    ticks_are_quiet,
+};
 pub use peer_window::SendWindow;
 pub use sender::Send;
 pub use text::Cut;

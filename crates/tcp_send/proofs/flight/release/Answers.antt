@@ -1,5 +1,5 @@
 use Rattle.std.proofs.Common.{ap, sym, ◌∙◌, arith}
-use Rattle.tcp_send.specs.Flight.{Flight, left_of}
+use Rattle.tcp_send.specs.Flight.{Flight}
 use Rattle.tcp_send.proofs.Cuts.{stays-none, stays-some}
 use Rattle.tcp_send.proofs.flight.release.Goals as goal
 

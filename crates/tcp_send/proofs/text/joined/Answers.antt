@@ -1,4 +1,4 @@
-use Rattle.std.proofs.Common.{◌-◌, ◌++◌, length, take, drop, ap, sym, ◌∙◌, arith}
+use Rattle.std.proofs.Common.{◌-◌, ◌++◌, length, take, drop, ap, ◌∙◌}
 use Rattle.tcp_send.proofs.Pieces.{part-two}
 use Rattle.tcp_send.proofs.text.joined.Goals as goal
 

@@ -1,7 +1,5 @@
-use Rattle.std.proofs.Common.{◌≡◌, true, Some, List, [], length, ap, sym, ◌∙◌, arith}
-use Rattle.tcp_send.specs.Inside.{seen}
-use Rattle.tcp_send.specs.Sender.{Sender, passed_of, cut_at, sent_of, first_cut, with_sent, row_passed}
-use Rattle.tcp_send.specs.declared.flight.Segment.{Segment}
+use Rattle.std.proofs.Common.{◌≡◌, true, Some, [], length, ap, sym, ◌∙◌, arith}
+use Rattle.tcp_send.specs.Sender.{Sender, cut_at, sent_of, first_cut, with_sent, row_passed}
 use Rattle.tcp_send.proofs.Cuts.{first-most, first-none}
 use Rattle.tcp_send.proofs.Senders.{row-first, row-after}
 use Rattle.tcp_send.proofs.sender.Send.at_row.Goals as goal

@@ -1,4 +1,4 @@
-use Rattle.std.proofs.Common.{◌≡◌, Some, ◌∙◌, subst, sym, ap}
+use Rattle.std.proofs.Common.{subst, sym}
 use Rattle.std.specs.Prelude.{IfSome, Option}
 use Rattle.tcp_send.specs.declared.text.Cut.{Cut}
 use Rattle.tcp_send.specs.Stream.{IsTrueCut}

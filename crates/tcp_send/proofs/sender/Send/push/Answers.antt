@@ -2,7 +2,7 @@ use Rattle.std.proofs.Common.{◌≡◌, ◌≤◌, ◌+◌, ◌-◌, ◌^◌, l
 use Rattle.std.proofs.lemmas.List.{length-take}
 use Rattle.circular_buffer.specs.Buffer.{Buffer}
 use Rattle.tcp_send.specs.Inside.{seen}
-use Rattle.tcp_send.specs.Sender.{Sender, pushed_of}
+use Rattle.tcp_send.specs.Sender.{pushed_of}
 use Rattle.tcp_send.proofs.Senders.{good-pushed}
 use Rattle.tcp_send.proofs.sender.Send.push.Goals as goal
 

@@ -1,0 +1,4 @@
+-- pieces that are fed one behind the other
+pub mod Feeding
+-- words one behind the other, of which there are at most so many
+pub mod FewWords

@@ -1,5 +1,5 @@
 pub mod HeadRuns
-pub mod MetLaws
+pub mod CaseLaws
 pub mod Readings
 pub mod Standing
 pub mod Meeting

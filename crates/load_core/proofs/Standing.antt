@@ -25,7 +25,7 @@ use Rattle.load_core.specs.declared.load.Stage.{Stage}
 use Rattle.load_core.specs.declared.load.Stage.TheVariants.{Heads, BadHead, Behind}
 use Rattle.load_core.specs.declared.reading.Reading.{Reading}
 use Rattle.load_core.specs.Final.{IsFinal}
-use Rattle.load_core.specs.Met.{HasLoadSoFar, HasNoLoad}
+use Rattle.load_core.specs.Cases.{HasLoadSoFar, HasNoLoad}
 use Rattle.load_core.specs.Taken.{room_of, Reads, ReadsOn, AtHeads, IsBehind, StandsAt}
 use Rattle.load_core.proofs.HeadRuns.{heads-append, bad_heads-append}
 

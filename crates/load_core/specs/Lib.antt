@@ -1,3 +1,6 @@
+-- how a stream ends a load: the first case that it meets
+pub mod Cases
+-- where the final head of a stream ends
 pub mod Final
-pub mod Met
+-- what is kept of a stream
 pub mod Taken

@@ -1,5 +1,5 @@
 -- What is kept of a stream.
-use Rattle.std.specs.Prelude.{◌≡◌, ℕ, ◌<◌, ◌==◌, ◌&&◌, false, nat_lt, is_none, List, [], ◌++◌, length, take, Option, Some, None, if◌then◌else◌}
+use Rattle.std.specs.Prelude.{◌≡◌, ℕ, ◌<◌, Bool, ◌==◌, ◌&&◌, false, nat_lt, is_none, List, [], ◌++◌, length, take, Option, Some, None, if◌then◌else◌}
 use Rattle.httparse.specs.Grammar.{ResponseHead, status_code}
 use Rattle.wire_http.specs.declared.bodies.BodyState.{BodyState}
 use Rattle.wire_http.specs.declared.bodies.BodyState.TheVariants as state
@@ -16,8 +16,8 @@ use Rattle.load_core.specs.declared.load.Load.{Load}
 use Rattle.load_core.specs.declared.load.Stage.{Stage}
 use Rattle.load_core.specs.declared.load.Stage.TheVariants.{Heads, BadHead, Behind}
 use Rattle.load_core.specs.declared.reading.Reading.{Reading}
-use Rattle.load_core.specs.declared.met.Met.{Met}
-use Rattle.load_core.specs.declared.met.Met.TheVariants.{Success, BadResponse, HttpStatus, Coding, BufferTooSmall}
+use Rattle.efi_base.specs.declared.load_end.LoadEnd.{LoadEnd}
+use Rattle.efi_base.specs.declared.load_end.LoadEnd.TheVariants.{Success, BadResponse, HttpStatus, Coding, BufferTooSmall, Truncated, Reset}
 
 -- how many octets of a body are placed at most: none of one that isn't a load's
 abbrev pub room_of : HeadInfo → ℕ → ℕ
@@ -60,14 +60,16 @@ StandsAt Heads kept placed most stream = AtHeads kept placed stream
 StandsAt BadHead kept placed most stream = HasBadHeads stream × (placed ≡ [])
 StandsAt (Behind r) kept placed most stream = IsBehind r placed most stream
 
--- the load has taken in this stream, with a buffer of so many octets
+-- the load has taken in this stream, whose length is counted, with a buffer of so many octets
 unfoldable pub HasTaken : Load → ℕ → List ℕ → Type 0
-HasTaken load most stream = (load.most ≡ most) × StandsAt load.stage load.kept.items load.placed.items most stream
+HasTaken load most stream =
+    (load.most ≡ most) × StandsAt load.stage load.kept.items load.placed.items most stream × (load.taken ≡ length stream)
 
--- the load is as it was: the buffer's length, how far the response is, and the octets that are kept and placed
+-- the load is as it was: the buffer's length, how far the response is, and the octets that are kept, placed and counted
 abbrev pub IsUnchanged : Load → Load → Type 0
 IsUnchanged old new =
     (new.most ≡ old.most) × (new.stage ≡ old.stage) × (new.kept.items ≡ old.kept.items) × (new.placed.items ≡ old.placed.items)
+    × (new.taken ≡ old.taken)
 
 -- the length that the framing states, or how many octets came
 abbrev pub length_by : Framing → ℕ → ℕ
@@ -77,20 +79,25 @@ length_by framing.Chunked count = count
 length_by framing.Close count = count
 length_by framing.BadLength count = count
 
+-- the case where the response has none: the stream ended at this length, or the peer reset the connection
+abbrev pub case_without : Bool → ℕ → Bool → Option LoadEnd
+case_without fin taken reset = if fin then Some (Truncated taken) else (if reset then Some Reset else None)
+
 -- what is told of a body that isn't coded
-abbrev pub case_by_length : ℕ → ℕ → Option Met → Option Met
+abbrev pub case_by_length : ℕ → ℕ → Option LoadEnd → Option LoadEnd
 case_by_length len most otherwise = if nat_lt most len then Some (BufferTooSmall len) else otherwise
 
-abbrev pub case_by_coding : Option CodingField → ℕ → ℕ → Option Met → Option Met
+abbrev pub case_by_coding : Option CodingField → ℕ → ℕ → Option LoadEnd → Option LoadEnd
 case_by_coding None len most otherwise = case_by_length len most otherwise
 case_by_coding (Some field) len most otherwise = Some (Coding field)
 
 -- what the final head and the length of the body tell
-abbrev pub case_by_head : HeadInfo → ℕ → ℕ → Option Met → Option Met
+abbrev pub case_by_head : HeadInfo → ℕ → ℕ → Option LoadEnd → Option LoadEnd
 case_by_head info len most otherwise =
     if info.status == 200 then case_by_coding info.coding len most otherwise else Some (HttpStatus info.status)
 
-abbrev pub case_of : BodyState → HeadInfo → ℕ → ℕ → Option Met
-case_of state.More info len most = case_by_head info len most None
-case_of state.Whole info len most = case_by_head info len most (Some Success)
-case_of (state.Bad part) info len most = Some (BadResponse part)
+-- the same by how far the body is, of which so many octets came
+abbrev pub case_of : BodyState → HeadInfo → ℕ → ℕ → Option LoadEnd → Option LoadEnd
+case_of state.More info count most otherwise = case_by_head info (length_by info.framing count) most otherwise
+case_of state.Whole info count most otherwise = case_by_head info (length_by info.framing count) most (Some (Success count))
+case_of (state.Bad part) info count most otherwise = Some (BadResponse part)

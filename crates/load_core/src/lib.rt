@@ -2,6 +2,8 @@
 //! aren't here.
 #![tactic(auto)]
 
+// the cases in which a stream ends a load
+mod cases;
 // where the final head of a stream ends
 mod heads;
 // what is kept of a list up to a limit
@@ -10,14 +12,8 @@ mod kept;
 mod laws;
 // a response that comes in pieces
 mod load;
-// the cases, and which of them is met
-mod met;
 // the body behind the final head
 mod reading;
 
-pub use laws::met_is_one;
+pub use laws::case_is_one;
 pub use load::Load;
-pub use met::Met;
-
-#[cfg(test)]
-mod tests;

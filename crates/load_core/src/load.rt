@@ -2,14 +2,14 @@
 ghost use Rattle.std.specs.Prelude.{◌≡◌, ◌+◌, ◌^◌, ◌≤◌, ◌++◌, ℕ, Bool, List, [], length, take, OnOk, OnErr, IfOk};
 ghost use Rattle.std.specs.Io.{StartsWith};
 ghost use Rattle.wire_http.specs.Response.{IsWhole};
-ghost use Rattle.load_core.specs.Met.{IsFirstMet, HasLoadSoFar, HasNoLoad};
+ghost use Rattle.load_core.specs.Cases.{IsFirstCase, HasLoadSoFar, HasNoLoad};
 ghost use Rattle.load_core.specs.Taken.{AtHeads, IsBehind, IsUnchanged, StandsAt, HasTaken};
 
+use crate::cases::{case_of, case_without};
 use crate::heads::{Found, find_final};
 use crate::kept::keep;
-use crate::met::{Met, case_of, length_by};
 use crate::reading::{Reading, read_first, read_piece, room_of, state_at};
-use efi_base::{Bytes, NoMemory, Part};
+use efi_base::{Bytes, LoadEnd, NoMemory, Part};
 use std::alloc::Global;
 use wire_http::MOST_HEAD;
 
@@ -31,6 +31,8 @@ pub struct Load {
     stage: Stage,
     kept: Vec<u8>,
     placed: Vec<u8>,
+    /// How many octets of the stream were taken in.
+    taken: u64,
 }
 
 /// As many octets as all heads have at most.
@@ -99,12 +101,19 @@ fn take_piece(
     }
 }
 
-/// The first case that what follows the final head meets.
-fn met_behind(reading: Reading, fin: bool, most: u32) -> Option<Met>
-    ensures { (placed stream : List ℕ) → IsBehind reading placed most stream → IsFirstMet most stream fin result }
+/// The first case behind the final head, where so many octets of the stream were taken in.
+fn case_behind(reading: Reading, fin: bool, reset: bool, most: u32, taken: u64) -> Option<LoadEnd>
+    ensures { (placed stream : List ℕ) → IsBehind reading placed most stream → taken ≡ length stream
+        → IsFirstCase most stream fin reset result }
 {
-    let len = length_by(reading.info.framing, reading.count);
-    case_of(state_at(reading, fin), reading.info, len, most)
+    let otherwise = case_without(fin, taken, reset);
+    case_of(
+        state_at(reading, fin),
+        reading.info,
+        reading.count,
+        most,
+        otherwise,
+    )
 }
 
 impl Load {
@@ -117,6 +126,7 @@ impl Load {
             stage: Stage::Heads,
             kept: Vec::new(alloc),
             placed: Vec::new(alloc),
+            taken: 0,
         }
     }
 
@@ -139,6 +149,7 @@ impl Load {
         ) {
             Ok(stage) => {
                 self.stage = stage;
+                self.taken = self.taken.saturating_add(piece.len() as u64);
                 Ok(())
             }
             Err(e) => {
@@ -149,18 +160,19 @@ impl Load {
         }
     }
 
-    /// The first case that the stream meets, and None where it meets none yet; fin says that the stream is at its end.
-    pub fn met(&self, fin: bool) -> Option<Met>
-        ensures { (most : ℕ) → (stream : List ℕ) → HasTaken self.now most stream → IsFirstMet most stream fin result }
+    /// The first case that the stream meets, and None where it meets none yet; fin says that the stream is at its end, and
+    /// reset that the peer reset the connection.
+    pub fn end(&self, fin: bool, reset: bool) -> Option<LoadEnd>
+        ensures { (most : ℕ) → (stream : List ℕ) → HasTaken self.now most stream → IsFirstCase most stream fin reset result }
     {
         match self.stage {
-            Stage::Heads => None,
-            Stage::BadHead => Some(Met::BadResponse(Part::Head)),
-            Stage::Behind(reading) => met_behind(reading, fin, self.most),
+            Stage::Heads => case_without(fin, self.taken, reset),
+            Stage::BadHead => Some(LoadEnd::BadResponse(Part::Head)),
+            Stage::Behind(reading) => case_behind(reading, fin, reset, self.most, self.taken),
         }
     }
 
-    /// The octets of the body that came, as far as they fit the buffer: with `Met::Success`, the body. None of another
+    /// The octets of the body that came, as far as they fit the buffer: with `LoadEnd::Success`, the body. None of another
     /// status's body and none of a coded one.
     pub fn body(&self) -> &[u8]
         ensures whole { (most : ℕ) → (stream : List ℕ) → HasTaken self.now most stream

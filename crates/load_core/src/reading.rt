@@ -4,8 +4,8 @@ ghost use Rattle.std.specs.Io.{StartsWith};
 ghost use Rattle.wire_http.specs.Feeding.{IsState};
 ghost use Rattle.load_core.specs.Taken.{room_of, Reads, ReadsOn};
 
+use crate::cases::OK;
 use crate::kept::keep;
-use crate::met::OK;
 use efi_base::NoMemory;
 use wire_http::{Body, BodyState, HeadInfo};
 

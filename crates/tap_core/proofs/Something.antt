@@ -1,6 +1,6 @@
 -- There is no capture of which nothing is shown: it has a first segment that asks for a connection or none, one that accepts it or
 -- none, and a record that meets a case or none. Which it is needn't be found here, so each is said by a double negation.
-use Rattle.std.proofs.Common.{◌≡◌, ◌⊎◌, ℕ, zero, suc, ◌+◌, ◌<◌, ◌≤◌, Bool, true, false, List, [], ◌∷◌, ◌++◌, length, fold, take, All, Option, Some, None, IsTrue, inl, inr, refl, ap, arith}
+use Rattle.std.proofs.Common.{◌≡◌, ◌⊎◌, ℕ, zero, suc, ◌+◌, ◌<◌, ◌≤◌, Bool, true, false, List, [], ◌∷◌, ◌++◌, length, fold, take, All, Option, Some, None, inl, inr, refl, ap, arith}
 use Rattle.std.proofs.lemmas.Bool.{cases_lt}
 use Rattle.std.proofs.lemmas.List.Elements.{All-cons, All-nil}
 use Rattle.efi_base.specs.declared.load_end.LoadEnd.{LoadEnd}
@@ -9,7 +9,8 @@ use Rattle.efi_base.specs.declared.plain.Record.{Record}
 use Rattle.wire_l4.specs.Segment.{Segment}
 use Rattle.tcp_recv.specs.Stream.{Board, empty}
 use Rattle.tap_core.specs.Connections.{Connects, accepts_at, after_heard, board_after, is_reset_at}
-use Rattle.tap_core.specs.Ends.{EndsBehind, IsFirstEnd, IsFirstEndAt, MeetNothing, MeetsOf, order}
+use Rattle.load_core.specs.Cases.{order}
+use Rattle.tap_core.specs.Ends.{EndsBehind, IsFirstEnd, IsFirstEndAt, MeetNothing, MeetsOf}
 use Rattle.tap_core.specs.Openings.{Opening, openings_of, IsFirstAt}
 use Rattle.tap_core.specs.Segments.{accepts}
 use Rattle.tap_core.specs.Shows.{Telling, ShowsEnd, ShowsOutOfTime, Shows, HasConnection, heard_behind}

@@ -1,20 +1,14 @@
--- The stream that a receiver and a load hold together, and the first case that it meets.
-use Rattle.std.proofs.Common.{◌≡◌, ℕ, zero, suc, ◌+◌, ◌%◌, ◌^◌, ◌<◌, ◌≤◌, ◌==◌, ◌&&◌, Bool, true, false, List, [], ◌∷◌, ◌++◌, length, take, drop, fold, Option, Some, None, refl, sym, ap, subst, ◌∙◌, inl, inr, arith, append-nil}
+-- The stream that a receiver and a load hold together.
+use Rattle.std.proofs.Common.{◌≡◌, ℕ, zero, suc, ◌+◌, ◌%◌, ◌^◌, ◌≤◌, ◌==◌, ◌&&◌, true, false, List, [], ◌∷◌, ◌++◌, length, take, drop, fold, Option, Some, None, refl, sym, ap, subst, ◌∙◌, arith, append-nil}
 use Rattle.std.proofs.lemmas.List.Sums.{fold-append}
 use Rattle.tcp_recv.specs.Stream.{Board, front, empty, after_cut, is_over}
 use Rattle.tcp_recv.specs.Receiver.{Receiver, accepted_of, is_ended}
 use Rattle.tcp_recv.proofs.Standing.{stands-front, accepted-stands}
 use Rattle.wire_l4.specs.Segment.{Segment}
-use Rattle.wire_http.specs.Response.{IsWhole}
-use Rattle.load_core.specs.Met.{Meets, IsFirst, case_place}
-use Rattle.load_core.specs.declared.met.Met.{Met}
-use Rattle.load_core.specs.declared.met.Met.TheVariants as met
 use Rattle.load_core.specs.Taken.{HasTaken}
-use Rattle.efi_base.specs.declared.load_end.LoadEnd.{LoadEnd}
-use Rattle.efi_base.specs.declared.load_end.LoadEnd.TheVariants.{Success, BadResponse, HttpStatus, Coding, BufferTooSmall, Truncated, Reset}
 use Rattle.tap_core.specs.declared.download.Download.{Download}
 use Rattle.tap_core.specs.Connections.{tap_window, after_segment, after_heard, board_after, is_reset}
-use Rattle.tap_core.specs.Ends.{MeetsOf, order, IsFirstEnd, IsFirstEndAt, MeetNothing, end_of, end_without}
+use Rattle.tap_core.specs.Ends.{IsFirstEndAt, MeetNothing}
 use Rattle.tap_core.specs.Following.{Follows}
 use Rattle.tap_core.specs.Segments.{is_cut, cut_of, resets}
 
@@ -77,90 +71,6 @@ after-Follows most irs board d s h f =
     omega (arith, accepted-Follows most irs board d f, ap length f.all_taken) in
     ap (λ n. after_cut n d.recv.cap d.recv.taken board (cut_of s)) f.irs_is ∙ ap (λ n. after_cut irs n d.recv.taken board (cut_of s)) f.cap_is
     ∙ ap (λ n. after_cut irs tap_window n board (cut_of s)) count ∙ sym (after_segment-cut irs board s h)
-
--- the place of a case of the response
-order-same : (m : Met) (len : ℕ) → order (end_of m len) ≤ case_place m
-order-same met.Success len = omega arith
-order-same (met.BadResponse part) len = omega arith
-order-same (met.HttpStatus s) len = omega arith
-order-same (met.Coding field) len = omega arith
-order-same (met.BufferTooSmall n) len = omega arith
-
-order-below : (m other : Met) (len : ℕ) → case_place m < case_place other → order (end_of m len) ≤ case_place other
-order-below m other len h = omega (arith, order-same m len, h)
-
-order-le : (m other : Met) (len : ℕ) → IsFirst m other → order (end_of m len) ≤ case_place other
-order-le m other len (inl e) = subst (λ x. order (end_of m len) ≤ case_place x) (sym e) (order-same m len)
-order-le m other len (inr h) = order-below m other len h
-
-order-early : (m : Met) (len : ℕ) → order (end_of m len) ≤ 4
-order-early met.Success len = omega arith
-order-early (met.BadResponse part) len = omega arith
-order-early (met.HttpStatus s) len = omega arith
-order-early (met.Coding field) len = omega arith
-order-early (met.BufferTooSmall n) len = omega arith
-
-met-of : (most : ℕ) (board : Board) (reset : Bool) (m : Met) (len : ℕ) → Meets most (front board.kept) (is_over board) m
-    → ((body : List ℕ) → IsWhole (front board.kept) (is_over board) 200 body → length body ≤ most → len ≡ length body)
-    → MeetsOf most board reset (end_of m len)
-met-of most board reset met.Success len h is_len = (h.0, h.1, is_len h.0 h.1 h.2, h.2)
-met-of most board reset (met.BadResponse part) len h is_len = h
-met-of most board reset (met.HttpStatus s) len h is_len = h
-met-of most board reset (met.Coding field) len h is_len = h
-met-of most board reset (met.BufferTooSmall n) len h is_len = h
-
-first-of : (most : ℕ) (board : Board) (reset : Bool) (m : Met) (len : ℕ)
-    → ((other : Met) → Meets most (front board.kept) (is_over board) other → IsFirst m other)
-    → (case : LoadEnd) → MeetsOf most board reset case → order (end_of m len) ≤ order case
-first-of most board reset m len first (Success n) h = order-le m met.Success len (first met.Success (h.0, h.1, h.3))
-first-of most board reset m len first (BadResponse part) h = order-le m (met.BadResponse part) len (first (met.BadResponse part) h)
-first-of most board reset m len first (HttpStatus s) h = order-le m (met.HttpStatus s) len (first (met.HttpStatus s) h)
-first-of most board reset m len first (Coding field) h = order-le m (met.Coding field) len (first (met.Coding field) h)
-first-of most board reset m len first (BufferTooSmall n) h = order-le m (met.BufferTooSmall n) len (first (met.BufferTooSmall n) h)
-first-of most board reset m len first (Truncated n) h = omega (arith, order-early m len)
-first-of most board reset m len first Reset h = omega (arith, order-early m len)
-first-of most board reset m len first other h = absurd h
-
--- a case of the response is the first one
-pub end-met : (most : ℕ) (board : Board) (reset : Bool) (m : Met) (len : ℕ) → Meets most (front board.kept) (is_over board) m
-    → ((other : Met) → Meets most (front board.kept) (is_over board) other → IsFirst m other)
-    → ((body : List ℕ) → IsWhole (front board.kept) (is_over board) 200 body → length body ≤ most → len ≡ length body)
-    → IsFirstEnd most board reset (Some (end_of m len))
-end-met most board reset m len h first is_len = (met-of most board reset m len h is_len, first-of most board reset m len first)
-
--- the response meets no case
-late-of : (most : ℕ) (board : Board) (reset : Bool) → ((other : Met) → ¬ (Meets most (front board.kept) (is_over board) other))
-    → (case : LoadEnd) → MeetsOf most board reset case → 5 ≤ order case
-late-of most board reset none (Success n) h = absurd (none met.Success (h.0, h.1, h.3))
-late-of most board reset none (BadResponse part) h = absurd (none (met.BadResponse part) h)
-late-of most board reset none (HttpStatus s) h = absurd (none (met.HttpStatus s) h)
-late-of most board reset none (Coding field) h = absurd (none (met.Coding field) h)
-late-of most board reset none (BufferTooSmall n) h = absurd (none (met.BufferTooSmall n) h)
-late-of most board reset none (Truncated n) h = omega arith
-late-of most board reset none Reset h = omega arith
-late-of most board reset none other h = absurd h
-
-not-both : (b : Bool) → b ≡ true → b ≡ false → ⊥
-not-both b t f = let both : true ≡ false = sym t ∙ f in absurd (cc)
-
-later-of : (most : ℕ) (board : Board) (reset : Bool) → is_over board ≡ false → ((other : Met) → ¬ (Meets most (front board.kept) (is_over board) other))
-    → (case : LoadEnd) → MeetsOf most board reset case → (6 ≤ order case) × (reset ≡ true)
-later-of most board reset over none (Success n) h = absurd (none met.Success (h.0, h.1, h.3))
-later-of most board reset over none (BadResponse part) h = absurd (none (met.BadResponse part) h)
-later-of most board reset over none (HttpStatus s) h = absurd (none (met.HttpStatus s) h)
-later-of most board reset over none (Coding field) h = absurd (none (met.Coding field) h)
-later-of most board reset over none (BufferTooSmall n) h = absurd (none (met.BufferTooSmall n) h)
-later-of most board reset over none (Truncated n) h = absurd (not-both (is_over board) h.0 over)
-later-of most board reset over none Reset h = (omega arith, h)
-later-of most board reset over none other h = absurd h
-
--- the case is the stream's end, or the reset, or there is none
-pub end-late : (most : ℕ) (board : Board) (reset over : Bool) (accepted : ℕ) → is_over board ≡ over → accepted ≡ length (front board.kept)
-    → ((other : Met) → ¬ (Meets most (front board.kept) (is_over board) other))
-    → IsFirstEnd most board reset (end_without over accepted reset)
-end-late most board reset true accepted e a none = ((e, a), late-of most board reset none)
-end-late most board true false accepted e a none = (refl, λ case h. (later-of most board true e none case h).0)
-end-late most board false false accepted e a none = λ case h. not-both false (later-of most board false e none case h).1 refl
 
 -- whether a segment resets the connection, by the accepted length that the receiver tells
 pub reset-Follows : (most irs : ℕ) (board : Board) (d : Download) (s : Segment) (accepted : ℕ) → Follows most irs board d → accepted ≡ accepted_of d.recv

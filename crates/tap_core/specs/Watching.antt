@@ -3,7 +3,7 @@ use Rattle.std.specs.Prelude.{◌≡◌, ℕ, ◌≤◌, List, [], length, take}
 use Rattle.efi_base.specs.declared.plain.Record.{Record}
 use Rattle.tcp_recv.specs.Stream.{front, is_over}
 use Rattle.wire_http.specs.Response.{IsWhole}
-use Rattle.load_core.specs.Met.{HasLoadSoFar, HasNoLoad}
+use Rattle.load_core.specs.Cases.{HasLoadSoFar, HasNoLoad}
 use Rattle.tap_core.specs.declared.passive.Seen.{Seen}
 use Rattle.efi_base.specs.declared.load_end.LoadEnd.TheVariants.{Success}
 use Rattle.tap_core.specs.Shown.{Tells}

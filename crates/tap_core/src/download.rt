@@ -2,7 +2,7 @@
 ghost use Rattle.std.specs.Prelude.{◌≡◌, ◌==◌, ◌&&◌, ◌+◌, ◌%◌, ◌^◌, ◌<◌, ◌≤◌, ℕ, true, false, not, List, [], IfOk, OnOk, length, drop, take, min, vec_len};
 ghost use Rattle.tcp_recv.specs.Stream.{Board, after_cut, empty, front, is_over};
 ghost use Rattle.tcp_recv.specs.Receiver.{is_next, untaken};
-ghost use Rattle.load_core.specs.Met.{HasLoadSoFar, HasNoLoad};
+ghost use Rattle.load_core.specs.Cases.{HasLoadSoFar, HasNoLoad};
 ghost use Rattle.wire_http.specs.Response.{IsWhole};
 ghost use Rattle.wire_l4.specs.Seen.{segment_seen};
 ghost use Rattle.tap_core.specs.Connections.{after_segment, is_reset};
@@ -10,7 +10,6 @@ ghost use Rattle.tap_core.specs.Ends.{IsFirstEnd};
 ghost use Rattle.tap_core.specs.Following.{Carries, Follows};
 ghost use Rattle.tap_core.specs.Segments.{cut_of, has_fin, is_cut, resets};
 
-use crate::ends::{end_of, end_without};
 use efi_base::{Bytes, LoadEnd, NoMemory};
 use load_core::Load;
 use std::alloc::Global;
@@ -73,10 +72,7 @@ impl Download {
     pub fn end(&self, reset: bool) -> Option<LoadEnd>
         ensures { (most irs : ℕ) (board : Board) → Follows most irs board self.now → IsFirstEnd most board reset result }
     {
-        match self.load.met(self.recv.ended()) {
-            Some(met) => Some(end_of(met, self.load.body().len() as u64)),
-            None => end_without(self.recv.ended(), self.recv.accepted(), reset),
-        }
+        self.load.end(self.recv.ended(), reset)
     }
 
     /// How many octets of the stream were accepted.

@@ -7,8 +7,6 @@ mod answer;
 mod download;
 // the fragments in front of that segment
 mod early;
-// with which case a download ends
-mod ends;
 // what a record adds to a download
 mod follow;
 // what the station hears from its peer
@@ -31,8 +29,6 @@ mod tally;
 mod tapping;
 // what a report tells
 mod telling;
-#[cfg(test)]
-mod tests;
 
 pub use laws::{
     honest_body, honest_front, honest_success, shows_one_thing, shows_something, succeeds_exactly,

@@ -1,12 +1,12 @@
 -- What an answer to a text tells of it.
-use Rattle.std.proofs.Common.{◌≡◌, ◌≢◌, ◌⊎◌, Bool, true, false, cond, List, ℕ, Result, Ok, Err, IfOk, IfErr, MatchResult, None, IsUtf8, refl, ap, inl, inr, ⊎_elim, arith}
+use Rattle.std.proofs.Common.{◌≡◌, ◌≢◌, ◌⊎◌, Bool, true, false, cond, List, ℕ, Result, Ok, Err, IfOk, IfErr, MatchResult, Option, IsUtf8, refl, ap, inl, inr, ⊎_elim, arith}
 use Rattle.std.specs.Str.{is_utf8}
 use Rattle.std.proofs.lemmas.Str.{IsUtf8-from_is_utf8, is_utf8-from_IsUtf8}
 use Rattle.url.specs.Parts.{Parts}
 use Rattle.url.specs.Parser.{parse_url}
 use Rattle.wire_http.specs.declared.uri_fault.UriFault.{UriFault}
 use Rattle.wire_http.specs.declared.uri_fault.UriFault.TheVariants as fault
-use Rattle.wire_http.specs.Uris.{AnswersUri, uri_of, taken}
+use Rattle.wire_http.specs.Uris.{AnswersUri, uri_from, taken}
 
 pub refused_by : (answer expected : Result Parts UriFault) → AnswersUri answer expected
     → IfErr answer (λ cause. cause ≢ fault.OutOfResources → expected ≡ Err cause)
@@ -27,16 +27,16 @@ pub given_bad : (answer expected : Result Parts UriFault) → AnswersUri answer 
 given_bad (Ok read) expected h cause bad = grind (arith, h, bad)
 given_bad (Err told) expected h cause bad = ⊎_elim (λ lack. inl lack) (λ same. inr (grind (arith, same, bad))) h
 
-pub text_of : (text : List ℕ) → IsUtf8 text → uri_of text ≡ taken (parse_url None text)
-text_of text valid =
-    ap (λ (t : Bool). cond t (taken (parse_url None text)) (Err fault.Bad)) (is_utf8-from_IsUtf8 text valid)
+pub text_of : (base : Option Parts) (text : List ℕ) → IsUtf8 text → uri_from base text ≡ taken (parse_url base text)
+text_of base text valid =
+    ap (λ (t : Bool). cond t (taken (parse_url base text)) (Err fault.Bad)) (is_utf8-from_IsUtf8 text valid)
 
 pub valid_is_text : (text : List ℕ) → IsUtf8 text → ¬ (is_utf8 text ≡ false)
 valid_is_text text valid wrong = grind (arith, is_utf8-from_IsUtf8 text valid, wrong)
 
-pub no_text : (text : List ℕ) → ¬ (IsUtf8 text) → uri_of text ≡ Err fault.Bad
-no_text text wrong = by_test (is_utf8 text) refl
+pub no_text : (base : Option Parts) (text : List ℕ) → ¬ (IsUtf8 text) → uri_from base text ≡ Err fault.Bad
+no_text base text wrong = by_test (is_utf8 text) refl
   where
-    by_test : (t : Bool) → is_utf8 text ≡ t → cond t (taken (parse_url None text)) (Err fault.Bad) ≡ Err fault.Bad
+    by_test : (t : Bool) → is_utf8 text ≡ t → cond t (taken (parse_url base text)) (Err fault.Bad) ≡ Err fault.Bad
     by_test true is = absurd (wrong (IsUtf8-from_is_utf8 text is))
     by_test false is = refl

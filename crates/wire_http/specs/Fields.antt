@@ -1,4 +1,4 @@
--- What the fields of a final head say of its body: coding (RFC 9110, section 8.4; RFC 9112, section 6.1) and framing
+-- What the fields of a final head say: of its body coding (RFC 9110, section 8.4; RFC 9112, section 6.1) and framing
 -- (RFC 9112, section 6.3).
 use Rattle.std.specs.Prelude.{ℕ, Bool, true, false, ◌&&◌, ◌||◌, ◌==◌, not, nat_le, List, [], ◌∷◌, length, map, filter, codes, Option, Some, None, if◌then◌else◌}
 use Rattle.std.specs.List.{flat_map, list_all}
@@ -44,6 +44,10 @@ transfer_codings fields = values (codes "transfer-encoding") fields
 
 abbrev pub content_lengths : List Pair → List (List ℕ)
 content_lengths fields = values (codes "content-length") fields
+
+-- where the resource is that was asked for (RFC 9110, section 10.2.2)
+abbrev pub locations : List Pair → List (List ℕ)
+locations fields = values (codes "location") fields
 
 -- a coding that isn't undone here: a content coding besides one `identity`, or a transfer coding besides one `chunked`
 abbrev pub coding_of : List Pair → Option CodingField

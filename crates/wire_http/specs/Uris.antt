@@ -1,7 +1,7 @@
 -- The URIs that a load can be asked for (RFC 9110, section 4.2.1). What the octets mean is told by the parser of the URL
 -- Standard, whose definition stands in the crate that parses them. Here stands which of its URLs are taken, and why
 -- another one isn't.
-use Rattle.std.specs.Prelude.{◌≡◌, ◌⊎◌, ℕ, ◌*◌, ◌^◌, Bool, false, ◌&&◌, ◌==◌, not, nat_lt, nat_eq, List, bytes_eq, codes, Option, Some, None, Result, Ok, Err, unwrap_or, if◌then◌else◌}
+use Rattle.std.specs.Prelude.{◌≡◌, ◌⊎◌, ℕ, Bool, false, not, nat_eq, List, bytes_eq, codes, Option, Some, None, Result, Ok, Err, unwrap_or, if◌then◌else◌}
 use Rattle.std.specs.Option.{option_eq}
 use Rattle.std.specs.Str.{is_utf8}
 use Rattle.std.specs.Net.Addr.{ipv4_bits}
@@ -64,9 +64,17 @@ abbrev pub answer_to : Parsed Parts → Result Parts UriFault
 answer_to (Ok url) = unless_refused (refusal_of url) url
 answer_to (Err error) = Err (fault_of error)
 
--- the URI that the octets write, or why they write none; octets that aren't UTF-8 are no URL
+-- the URI that the octets write behind a base, or why they write none; octets that aren't UTF-8 are no URL
+abbrev pub uri_from : Option Parts → List ℕ → Result Parts UriFault
+uri_from base text = if is_utf8 text then taken (parse_url base text) else Err fault.Bad
+
+-- the URI that the octets write by themselves
 abbrev pub uri_of : List ℕ → Result Parts UriFault
-uri_of text = if is_utf8 text then taken (parse_url None text) else Err fault.Bad
+uri_of text = uri_from None text
+
+-- the URI that a Location field names for whoever asked for the base (RFC 9110, section 10.2.2)
+abbrev pub location_of : Parts → List ℕ → Result Parts UriFault
+location_of base text = uri_from (Some base) text
 
 -- the answer is this one, or that there was no memory
 abbrev pub AnswersUri : Result Parts UriFault → Result Parts UriFault → Type 0

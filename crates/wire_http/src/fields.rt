@@ -1,7 +1,8 @@
-//! What the fields of a head say of its body: codings and framing.
+//! What the fields of a head say: codings and framing of its body, and where else it is.
 ghost use Rattle.std.specs.Prelude.{◌≡◌, length, All};
 ghost use Rattle.httparse.specs.Spans.{IsHeaderWithin};
-ghost use Rattle.wire_http.specs.Fields.{values, is_one, is_none_or_one, coding_of, framing_of, framing_by_lengths, has_no_body};
+ghost use Rattle.wire_http.specs.Fields.{values, is_one, is_none_or_one, coding_of, framing_of, framing_by_lengths, has_no_body, locations};
+ghost use Rattle.wire_http.specs.Info.{IsOneAt};
 ghost use Rattle.wire_http.specs.Walk.{fields_at, ShowsValues};
 
 use crate::head::Framing;
@@ -67,6 +68,17 @@ pub fn coding(buf: &[u8], spans: &[HeaderSpan]) -> Option<CodingField>
         return Some(CodingField::Transfer);
     }
     None
+}
+
+/// Where the value of the one field Location begins, and its length.
+pub fn location(buf: &[u8], spans: &[HeaderSpan]) -> Option<(usize, usize)>
+    requires within { All (IsHeaderWithin (length buf.now)) spans.now }
+    ensures { IsOneAt buf.now result (locations (fields_at buf.now spans.now)) }
+{
+    match values_of(buf, spans, b"location") {
+        Values::One(value) => Some((value.start, value.end - value.start)),
+        _ => None,
+    }
 }
 
 /// The length that the Content-Length fields state together, or `Close` where there is none.

@@ -3,10 +3,11 @@ ghost use Rattle.std.specs.Prelude.{◌≡◌, ◌≤◌, ℕ, List, length, All
 ghost use Rattle.httparse.specs.Grammar.{ResponseHead};
 ghost use Rattle.httparse.specs.Spans.{IsHeaderWithin};
 ghost use Rattle.wire_http.specs.Heads.{ReadsHead};
-ghost use Rattle.wire_http.specs.Info.{IsInfo, HeadIs, IfWhole, IsWholeAnd, MayBecomeHead, NeverHasHead};
+ghost use Rattle.wire_http.specs.Fields.{locations};
+ghost use Rattle.wire_http.specs.Info.{IsInfo, IsOneAt, HeadIs, IfWhole, IsWholeAnd, MayBecomeHead, NeverHasHead};
 ghost use Rattle.wire_http.specs.Walk.{fields_at};
 
-use crate::fields::{coding, framing};
+use crate::fields::{coding, framing, location};
 use crate::lines::fields_begun;
 use efi_base::CodingField;
 use httparse::Status;
@@ -40,6 +41,9 @@ pub struct HeadInfo {
     pub status: u16,
     pub framing: Framing,
     pub coding: Option<CodingField>,
+    /// Where the value of the one field Location begins (RFC 9110, section 10.2.2), and its length, in octets of the
+    /// head; none where there isn't exactly one.
+    pub location: Option<(usize, usize)>,
 }
 
 /// What stands at the front of the octets.
@@ -85,11 +89,13 @@ fn read_into(bytes: &[u8], room: &mut [HeaderSpan]) -> Head
 
 fn info_of(bytes: &[u8], spans: &[HeaderSpan], status: u16) -> HeadInfo
     requires within { All (IsHeaderWithin (length bytes.now)) spans.now }
-    ensures { IsInfo result status (fields_at bytes.now spans.now) }
+    ensures says { IsInfo result status (fields_at bytes.now spans.now) }
+    ensures location { IsOneAt bytes.now result.location (locations (fields_at bytes.now spans.now)) }
 {
     HeadInfo {
         status,
         framing: framing(bytes, spans, status),
         coding: coding(bytes, spans),
+        location: location(bytes, spans),
     }
 }

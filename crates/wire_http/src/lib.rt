@@ -41,4 +41,4 @@ pub use laws::{
 };
 pub use request::request_text;
 pub use uri_fault::UriFault;
-pub use uris::{Uri, read_uri};
+pub use uris::{Uri, read_location, read_uri};

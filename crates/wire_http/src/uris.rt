@@ -4,7 +4,7 @@ ghost use Rattle.std.specs.Prelude.{◌≡◌, ◌≢◌, ◌≤◌, ◌^◌, fa
 ghost use Rattle.std.specs.Str.{is_utf8};
 ghost use Rattle.url.specs.Parts.{Parts};
 ghost use Rattle.url.specs.Parser.{parse_url};
-ghost use Rattle.wire_http.specs.Uris.{uri_of, taken, answer_to, fault_of, AnswersUri, refusal_of, is_plain_host, host_of, port_of};
+ghost use Rattle.wire_http.specs.Uris.{uri_of, location_of, taken, answer_to, fault_of, AnswersUri, refusal_of, is_plain_host, host_of, port_of};
 
 use crate::hosts::Host;
 use crate::uri_fault::UriFault;
@@ -149,4 +149,35 @@ pub fn read_uri(alloc: Global, text: &[u8]) -> Result<Uri, UriFault>
     ensures no_text { is_utf8 text.now ≡ false → result ≡ Err UriFault.Bad }
 {
     decode(alloc, text)
+}
+
+fn join(base: &Uri, text: &str) -> Result<Uri, UriFault>
+    ensures { AnswersUri result (taken (parse_url (Some base.now) text.now)) }
+{
+    answer_to(base.url.join(text))
+}
+
+fn decode_location(base: &Uri, text: &[u8]) -> Result<Uri, UriFault>
+    ensures answers { AnswersUri result (location_of base.now text.now) }
+    ensures no_text { is_utf8 text.now ≡ false → result ≡ Err UriFault.Bad }
+{
+    match str::from_utf8(text) {
+        Ok(text) => join(base, text),
+        Err(_) => Err(UriFault::Bad),
+    }
+}
+
+/// Reads the URI that the value of a Location field names for whoever asked for the base: a whole URI, or what differs
+/// from the base (RFC 3986, section 5). Its faults are those of `read_uri`.
+pub fn read_location(base: &Uri, text: &[u8]) -> Result<Uri, UriFault>
+    requires { length text.now ≤ 2 ^ 16 }
+    ensures taken { IfOk result (λ uri. location_of base.now text.now ≡ Ok uri) }
+    ensures refused { IfErr result (λ fault. fault ≢ UriFault.OutOfResources → location_of base.now text.now ≡ Err fault) }
+    ensures good { (uri : Parts) → location_of base.now text.now ≡ Ok uri
+        → MatchResult result (λ read. read ≡ uri) (λ fault. fault ≡ UriFault.OutOfResources) }
+    ensures bad { (cause : UriFault) → location_of base.now text.now ≡ Err cause
+        → MatchResult result (λ read. ⊥) (λ fault. (fault ≡ UriFault.OutOfResources) ⊎ (fault ≡ cause)) }
+    ensures no_text { is_utf8 text.now ≡ false → result ≡ Err UriFault.Bad }
+{
+    decode_location(base, text)
 }

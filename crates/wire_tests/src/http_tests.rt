@@ -7,6 +7,7 @@ fn whole(status: u16, framing: Framing, coding: Option<CodingField>, len: usize)
         status,
         framing,
         coding,
+        location: None,
     };
     Head::Whole(info, len)
 }
@@ -95,6 +96,31 @@ fn reads_heads(rt: HostRuntime) {
     ];
     for (bytes, want) in cases {
         assert_eq!(rt; read_head(bytes), want);
+    }
+}
+
+#[test]
+fn finds_the_one_location(rt: HostRuntime) {
+    let cases: [(&[u8], Option<(usize, usize)>); 4] = [
+        (
+            b"HTTP/1.1 302 Found\r\nlocation:  /b \r\n\r\n",
+            Some((31, 2)),
+        ),
+        (
+            b"HTTP/1.1 301 M\r\nA: /a\r\nLOCATION:http://a/\r\n\r\n",
+            Some((32, 9)),
+        ),
+        (
+            b"HTTP/1.1 302 Found\r\nLocation: /b\r\nLocation: /b\r\n\r\n",
+            None,
+        ),
+        (b"HTTP/1.1 302 Found\r\nLocations: /b\r\n\r\n", None),
+    ];
+    for (bytes, want) in cases {
+        match read_head(bytes) {
+            Head::Whole(info, _) => assert_eq!(rt; info.location, want),
+            other => assert_eq!(rt; other, Head::More),
+        }
     }
 }
 

@@ -1,7 +1,7 @@
 //! URIs from outside, and the requests that ask for them.
 use efi_base::Ip4;
 use std::alloc::Global;
-use wire_http::{Host, UriFault, read_uri, request_text};
+use wire_http::{Host, Uri, UriFault, read_location, read_uri, request_text};
 
 const LOOPBACK: u32 = 0x7F00_0001;
 
@@ -107,6 +107,40 @@ fn reads_names(rt: HostRuntime) {
             }
             Err(fault) => assert_eq!(rt; Some(fault), None),
         }
+    }
+}
+
+/// Whether the base and the value of a Location field give this URL, or this fault.
+fn leads_to(base: &Uri, text: &[u8], want: Result<&[u8], UriFault>) -> bool {
+    if text.len() > MOST_TEXT {
+        return false;
+    }
+    match (read_location(base, text), want) {
+        (Ok(uri), Ok(url)) => uri.url().as_str().as_bytes() == url,
+        (Err(fault), Err(cause)) => fault == cause,
+        _ => false,
+    }
+}
+
+#[test]
+fn follows_locations(rt: HostRuntime) {
+    let cases: [(&[u8], Result<&[u8], UriFault>); 8] = [
+        (b"c", Ok(b"http://192.168.7.1:8080/a/c")),
+        (b"/x", Ok(b"http://192.168.7.1:8080/x")),
+        (b"../x", Ok(b"http://192.168.7.1:8080/x")),
+        (b"?r", Ok(b"http://192.168.7.1:8080/a/b?r")),
+        (b"//10.0.0.9/y", Ok(b"http://10.0.0.9/y")),
+        (b"http://boot.example/z", Ok(b"http://boot.example/z")),
+        (b"https://boot.example/z", Err(UriFault::Scheme)),
+        (b"/\xFF", Err(UriFault::Bad)),
+    ];
+    match read_uri(rt.alloc(), b"http://192.168.7.1:8080/a/b?q") {
+        Ok(base) => {
+            for (text, want) in cases {
+                assert!(rt; leads_to(&base, text, want));
+            }
+        }
+        Err(fault) => assert_eq!(rt; Some(fault), None),
     }
 }
 

@@ -1,5 +1,5 @@
 -- The stage behind the piece; where there is no memory, what was there before.
-use Rattle.std.proofs.Common.{◌≡◌, ◌++◌, ℕ, List, take, sym, ap, ◌∙◌, subst, arith}
+use Rattle.std.proofs.Common.{◌≡◌, ◌++◌, ℕ, List, take, sym, ap, ◌∙◌, subst, arith, length-append}
 use Rattle.load_core.specs.Taken.{StandsAt, HasTaken}
 use Rattle.load_core.proofs.load.Load.feed.Goals as goal
 
@@ -11,6 +11,7 @@ returns-in-Ok-clause-taken c most stream h bound =
       h.0,
       subst (λ (m : ℕ). StandsAt c.in-Ok.stage c.take_piece.new.kept.items c.take_piece.new.placed.items m (stream ++ c.args.piece.now)) h.0
           (c.in-Ok.ensures.stands stream at bound),
+      omega (arith, c.saturating_add-self.ensures, h.2, bound, length-append stream c.args.piece.now),
     )
 
 pub returns-in-Err-clause-stays : goal.returns-in-Err-clause-stays
@@ -25,4 +26,5 @@ returns-in-Err-clause-stays c most stream h =
       h.0,
       subst (λ (t : List ℕ). StandsAt load.stage t c.truncate-in-Err.new.self.items most stream) (sym kept)
           (subst (λ (t : List ℕ). StandsAt load.stage load.kept.items t most stream) (sym placed) h.1),
+      h.2,
     )

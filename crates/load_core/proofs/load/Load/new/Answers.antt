@@ -15,4 +15,5 @@ returns c = (
     may = nothing-may;
     placed_is = c.new-2.ensures.items;
   },
+  refl,
 )

@@ -1,13 +1,13 @@
 //! Loads on cases from outside.
 ghost use Rattle.std.specs.Prelude.{◌<◌};
 
-use crate::{Load, Met};
-use efi_base::{CodingField, Part};
+use efi_base::{CodingField, LoadEnd, Part};
+use load_core::Load;
 use std::alloc::Global;
 use std::process::Abort;
 
 /// The buffer's length, the stream, whether it is at its end, what is met, and the octets placed.
-type Row<'a> = (u32, &'a [u8], bool, Option<Met>, &'a [u8]);
+type Row<'a> = (u32, &'a [u8], bool, Option<LoadEnd>, &'a [u8]);
 
 /// Feeds a piece, and where there is no memory for it, once more.
 fn feed(rt: &impl Abort, load: &mut Load, piece: &[u8]) {
@@ -20,12 +20,12 @@ fn feed(rt: &impl Abort, load: &mut Load, piece: &[u8]) {
 fn loads(rt: &impl Abort, alloc: Global, size: usize, row: &Row)
     requires { 0 < size }
 {
-    let (most, stream, fin, met, body) = row;
+    let (most, stream, fin, end, body) = row;
     let mut load = Load::new(alloc, *most);
     for piece in stream.chunks(size) {
         feed(rt, &mut load, piece);
     }
-    assert_eq!(rt; load.met(*fin), *met, "in pieces of {size}");
+    assert_eq!(rt; load.end(*fin, false), *end, "in pieces of {size}");
     assert_eq!(rt; load.body(), *body, "in pieces of {size}");
     assert_eq!(rt; load.into_body().as_slice(), *body, "in pieces of {size}");
 }
@@ -46,128 +46,134 @@ fn every_case(rt: HostRuntime) {
             5,
             b"HTTP/1.1 200 OK\r\nContent-Length: 5\r\n\r\nhello",
             false,
-            Some(Met::Success),
+            Some(LoadEnd::Success(5)),
             b"hello",
         ),
         (
             5,
             b"HTTP/1.1 200 OK\r\nContent-Length: 5\r\n\r\nhello, you",
             false,
-            Some(Met::Success),
+            Some(LoadEnd::Success(5)),
             b"hello",
         ),
         (
             4,
             b"HTTP/1.1 200 OK\r\nContent-Length: 5\r\n\r\n",
             false,
-            Some(Met::BufferTooSmall(5)),
+            Some(LoadEnd::BufferTooSmall(5)),
             b"",
         ),
         (
             9,
             b"HTTP/1.1 200 OK\r\nContent-Length: 5\r\n\r\nhell",
             true,
-            None,
+            Some(LoadEnd::Truncated(42)),
             b"hell",
         ),
         (
             0,
             b"HTTP/1.1 200 OK\r\nContent-Length: 0\r\n\r\n",
             false,
-            Some(Met::Success),
+            Some(LoadEnd::Success(0)),
             b"",
         ),
         (
             9,
             b"HTTP/1.1 100 Continue\r\n\r\nHTTP/1.1 200 OK\r\nContent-Length: 2\r\n\r\nhi",
             false,
-            Some(Met::Success),
+            Some(LoadEnd::Success(2)),
             b"hi",
         ),
         (
             9,
             b"HTTP/1.1 103 Early Hints\r\nLink: a\r\n\r\nHTTP/1.1 404 None\r\n\r\n",
             false,
-            Some(Met::HttpStatus(404)),
+            Some(LoadEnd::HttpStatus(404)),
             b"",
         ),
         (
             9,
             b"HTTP/1.1 103 Early Hints\r\nLink: a\r\n\r\nHTTP/1.1 200 OK\r\nContent-Length: 1, 01\r\n\r\n!",
             false,
-            Some(Met::Success),
+            Some(LoadEnd::Success(1)),
             b"!",
         ),
         (
             1,
             b"HTTP/1.1 404 None\r\nContent-Length: 2\r\n\r\nno",
             false,
-            Some(Met::HttpStatus(404)),
+            Some(LoadEnd::HttpStatus(404)),
             b"",
         ),
         (
             9,
             b"HTTP/1.1 101 Switching\r\n\r\n",
             false,
-            Some(Met::HttpStatus(101)),
+            Some(LoadEnd::HttpStatus(101)),
             b"",
         ),
         (
             9,
             b"HTTP/1.1 100 Continue\r\n\r\nHTTQ",
             false,
-            Some(Met::BadResponse(Part::Head)),
+            Some(LoadEnd::BadResponse(Part::Head)),
             b"",
         ),
-        (9, b"HTTP/1.1 200 OK\r\nContent-Length: 5", true, None, b""),
-        (9, b"", true, None, b""),
+        (
+            9,
+            b"HTTP/1.1 200 OK\r\nContent-Length: 5",
+            true,
+            Some(LoadEnd::Truncated(34)),
+            b"",
+        ),
+        (9, b"", true, Some(LoadEnd::Truncated(0)), b""),
         (
             9,
             b"HTTP/1.1 200 OK\r\nContent-Length: 5, 6\r\n\r\n",
             false,
-            Some(Met::BadResponse(Part::Length)),
+            Some(LoadEnd::BadResponse(Part::Length)),
             b"",
         ),
         (
             9,
             b"HTTP/1.1 200 OK\r\nContent-Length: 5\r\nContent-Length: 6\r\n\r\nhello",
             false,
-            Some(Met::BadResponse(Part::Length)),
+            Some(LoadEnd::BadResponse(Part::Length)),
             b"",
         ),
         (
             9,
             b"HTTP/1.1 404 None\r\nTransfer-Encoding: chunked\r\n\r\nx",
             false,
-            Some(Met::BadResponse(Part::Chunk)),
+            Some(LoadEnd::BadResponse(Part::Chunk)),
             b"",
         ),
         (
             9,
             b"HTTP/1.1 200 OK\r\nTransfer-Encoding: chunked\r\n\r\n2\r\nhi\r\n0\r\n:\r\n",
             false,
-            Some(Met::BadResponse(Part::Trailer)),
+            Some(LoadEnd::BadResponse(Part::Trailer)),
             b"hi",
         ),
         (
             9,
             b"HTTP/1.1 200 OK\r\nTransfer-Encoding: chunked\r\n\r\n2\r\nhi\r\n1;a\r\n!\r\n0\r\n\r\n",
             false,
-            Some(Met::Success),
+            Some(LoadEnd::Success(3)),
             b"hi!",
         ),
         (
             2,
             b"HTTP/1.1 200 OK\r\nTransfer-Encoding: chunked\r\n\r\n2\r\nhi\r\n2\r\n!",
             false,
-            Some(Met::BufferTooSmall(3)),
+            Some(LoadEnd::BufferTooSmall(3)),
             b"hi",
         ),
         (
             2,
             b"HTTP/1.1 200 OK\r\nTransfer-Encoding: chunked\r\n\r\n2\r\nhi\r\n1\r\n!!",
             false,
-            Some(Met::BadResponse(Part::Chunk)),
+            Some(LoadEnd::BadResponse(Part::Chunk)),
             b"hi",
         ),
         (
@@ -181,28 +187,28 @@ fn every_case(rt: HostRuntime) {
             9,
             b"HTTP/1.1 200 OK\r\n\r\nall of it",
             true,
-            Some(Met::Success),
+            Some(LoadEnd::Success(9)),
             b"all of it",
         ),
         (
             8,
             b"HTTP/1.1 200 OK\r\n\r\nall of it",
             true,
-            Some(Met::BufferTooSmall(9)),
+            Some(LoadEnd::BufferTooSmall(9)),
             b"all of i",
         ),
         (
             9,
             b"HTTP/1.1 200 OK\r\nContent-Encoding: gzip\r\nContent-Length: 2\r\n\r\nhi",
             false,
-            Some(Met::Coding(CodingField::Content)),
+            Some(LoadEnd::Coding(CodingField::Content)),
             b"",
         ),
         (
             9,
             b"HTTP/1.1 200 OK\r\nTransfer-Encoding: gzip\r\n\r\nhi",
             true,
-            Some(Met::Coding(CodingField::Transfer)),
+            Some(LoadEnd::Coding(CodingField::Transfer)),
             b"",
         ),
     ];
@@ -219,7 +225,7 @@ fn meets_behind(
     front: &[u8],
     times: usize,
     end: &[u8],
-) -> Option<Met> {
+) -> Option<LoadEnd> {
     let mut load = Load::new(alloc, 9);
     feed(rt, &mut load, front);
     for _ in 0..255 {
@@ -229,17 +235,17 @@ fn meets_behind(
         feed(rt, &mut load, b"\n");
     }
     feed(rt, &mut load, end);
-    load.met(false)
+    load.end(false, false)
 }
 
 #[test]
 fn heads_end_at_the_limit(rt: HostRuntime) {
-    let bad = Some(Met::BadResponse(Part::Head));
-    let cases: [(&[u8], usize, &[u8], Option<Met>); 5] = [
+    let bad = Some(LoadEnd::BadResponse(Part::Head));
+    let cases: [(&[u8], usize, &[u8], Option<LoadEnd>); 5] = [
         (b"", 63, b"", None),
         (b"", 64, b"", bad),
-        (b"HTTP/1.1 103 E\n\n", 13, EMPTY, Some(Met::Success)),
-        (b"HTTP/1.1 103 E\n\n", 14, EMPTY, Some(Met::Success)),
+        (b"HTTP/1.1 103 E\n\n", 13, EMPTY, Some(LoadEnd::Success(0))),
+        (b"HTTP/1.1 103 E\n\n", 14, EMPTY, Some(LoadEnd::Success(0))),
         (b"HTTP/1.1 103 E\n\n", 15, EMPTY, bad),
     ];
     for (front, times, end, want) in cases {

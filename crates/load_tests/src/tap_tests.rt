@@ -1,9 +1,9 @@
 //! What a tap tells of small captures, whose frames were made by another program.
-use crate::Tap;
 use efi_base::{Bytes, LoadEnd, Record, Tick};
 use std::alloc::Global;
 use std::process::Abort;
 use std::test::Fail;
+use tap_core::Tap;
 
 /// The station's segment that asks for a connection, from 02:00:00:00:00:01.
 const SYN: &str = "\

@@ -1,5 +1,5 @@
 -- A stream meets one case of each kind.
-use Rattle.std.proofs.Common.{◌≡◌, ◌≢◌, ℕ, ◌<◌, Bool, List, length, refl, sym, ap, ◌∙◌, subst, arith, Some, None}
+use Rattle.std.proofs.Common.{◌≡◌, ◌≢◌, ℕ, zero, suc, ◌<◌, Bool, List, length, refl, sym, ap, ◌∙◌, subst, arith, Some, None}
 use Rattle.httparse.specs.Grammar.{ResponseHead, status_code}
 use Rattle.efi_base.specs.declared.response.CodingField.{CodingField}
 use Rattle.efi_base.specs.declared.response.Part.{Part}
@@ -9,10 +9,10 @@ use Rattle.wire_http.specs.Fields.{coding_of, framing_of}
 use Rattle.wire_http.specs.Heads.{fields_of}
 use Rattle.wire_http.proofs.BadLaws.{bad-one}
 use Rattle.wire_http.proofs.PieceLaws.{so_far_unique}
-use Rattle.wire_http.proofs.ResponseLaws.{heads_unique}
-use Rattle.load_core.specs.declared.met.Met.{Met}
-use Rattle.load_core.specs.declared.met.Met.TheVariants.{Success, BadResponse, HttpStatus, Coding, BufferTooSmall}
-use Rattle.load_core.specs.Met.{HasFinal, IsLengthSoFar, IsLength, Meets, case_place}
+use Rattle.wire_http.proofs.ResponseLaws.{heads_unique, one_whole}
+use Rattle.efi_base.specs.declared.load_end.LoadEnd.{LoadEnd}
+use Rattle.efi_base.specs.declared.load_end.LoadEnd.TheVariants.{Success, BadResponse, HttpStatus, Coding, BufferTooSmall, Truncated, Reset}
+use Rattle.load_core.specs.Cases.{HasFinal, IsLengthSoFar, IsLength, Meets, order}
 
 -- what holds of the one final head and its rest holds of the other
 at_same : (stream : List ℕ) (P Q : ResponseHead → List ℕ → Type 0) (x : HasFinal stream P) → HasFinal stream Q → Q x.1 x.2
@@ -62,30 +62,42 @@ small_one most stream n m x y =
     let other = at_same stream (IsOver most n) (IsOver most m) x y in
     ap (λ (k : ℕ). BufferTooSmall k) (length_one (framing_of 200 (fields_of x.1)) x.2 n m x.4.2 other.2)
 
-pub met-one : (most : ℕ) (stream : List ℕ) (fin : Bool) (a b : Met) → Meets most stream fin a → Meets most stream fin b
-    → case_place a ≡ case_place b → a ≡ b
-met-one most stream fin Success Success x y e = refl
-met-one most stream fin Success (BadResponse p) x y e = absurd (omega arith)
-met-one most stream fin Success (HttpStatus s) x y e = absurd (omega arith)
-met-one most stream fin Success (Coding f) x y e = absurd (omega arith)
-met-one most stream fin Success (BufferTooSmall n) x y e = absurd (omega arith)
-met-one most stream fin (BadResponse p) Success x y e = absurd (omega arith)
-met-one most stream fin (BadResponse p) (BadResponse q) x y e = ap (λ (p : Part). BadResponse p) (bad-one stream p q x y)
-met-one most stream fin (BadResponse p) (HttpStatus s) x y e = absurd (omega arith)
-met-one most stream fin (BadResponse p) (Coding f) x y e = absurd (omega arith)
-met-one most stream fin (BadResponse p) (BufferTooSmall n) x y e = absurd (omega arith)
-met-one most stream fin (HttpStatus s) Success x y e = absurd (omega arith)
-met-one most stream fin (HttpStatus s) (BadResponse p) x y e = absurd (omega arith)
-met-one most stream fin (HttpStatus s) (HttpStatus t) x y e = status_one stream s t x y
-met-one most stream fin (HttpStatus s) (Coding f) x y e = absurd (omega arith)
-met-one most stream fin (HttpStatus s) (BufferTooSmall n) x y e = absurd (omega arith)
-met-one most stream fin (Coding f) Success x y e = absurd (omega arith)
-met-one most stream fin (Coding f) (BadResponse p) x y e = absurd (omega arith)
-met-one most stream fin (Coding f) (HttpStatus s) x y e = absurd (omega arith)
-met-one most stream fin (Coding f) (Coding g) x y e = coding_one stream f g x y
-met-one most stream fin (Coding f) (BufferTooSmall n) x y e = absurd (omega arith)
-met-one most stream fin (BufferTooSmall n) Success x y e = absurd (omega arith)
-met-one most stream fin (BufferTooSmall n) (BadResponse p) x y e = absurd (omega arith)
-met-one most stream fin (BufferTooSmall n) (HttpStatus s) x y e = absurd (omega arith)
-met-one most stream fin (BufferTooSmall n) (Coding f) x y e = absurd (omega arith)
-met-one most stream fin (BufferTooSmall n) (BufferTooSmall m) x y e = small_one most stream n m x y
+-- the case has this place in the order
+abbrev IsKind : ℕ → LoadEnd → Type 0
+IsKind zero e = (n : ℕ) × (e ≡ Success n)
+IsKind (suc zero) e = (p : Part) × (e ≡ BadResponse p)
+IsKind (suc (suc zero)) e = (s : ℕ) × (e ≡ HttpStatus s)
+IsKind (suc (suc (suc zero))) e = (f : CodingField) × (e ≡ Coding f)
+IsKind (suc (suc (suc (suc zero)))) e = (n : ℕ) × (e ≡ BufferTooSmall n)
+IsKind (suc (suc (suc (suc (suc zero))))) e = (n : ℕ) × (e ≡ Truncated n)
+IsKind (suc (suc (suc (suc (suc (suc zero)))))) e = e ≡ Reset
+IsKind (suc (suc (suc (suc (suc (suc (suc k))))))) e = Unit {0}
+
+kind-of : (e : LoadEnd) → IsKind (order e) e
+kind-of (Success n) = (n, refl)
+kind-of (BadResponse p) = (p, refl)
+kind-of (HttpStatus s) = (s, refl)
+kind-of (Coding f) = (f, refl)
+kind-of (BufferTooSmall n) = (n, refl)
+kind-of (Truncated n) = (n, refl)
+kind-of Reset = refl
+kind-of other = tt
+
+pub case-one : (most : ℕ) (stream : List ℕ) (fin reset : Bool) (a b : LoadEnd) → Meets most stream fin reset a → Meets most stream fin reset b
+    → order a ≡ order b → a ≡ b
+case-one most stream fin reset a b x y e = by a x (subst (λ (n : ℕ). IsKind n b) (sym e) (kind-of b))
+  where
+    by : (a : LoadEnd) → Meets most stream fin reset a → IsKind (order a) b → a ≡ b
+    by (Success n) x k =
+        let z = subst (Meets most stream fin reset) k.1 y in
+        let same = one_whole stream x.0 z.0 fin 200 200 x.1 z.1 in
+        ap Success (x.2 ∙ ap length same.1 ∙ sym z.2) ∙ sym k.1
+    by (BadResponse p) x k = ap (λ (q : Part). BadResponse q) (bad-one stream p k.0 x (subst (Meets most stream fin reset) k.1 y)) ∙ sym k.1
+    by (HttpStatus s) x k = status_one stream s k.0 x (subst (Meets most stream fin reset) k.1 y) ∙ sym k.1
+    by (Coding f) x k = coding_one stream f k.0 x (subst (Meets most stream fin reset) k.1 y) ∙ sym k.1
+    by (BufferTooSmall n) x k = small_one most stream n k.0 x (subst (Meets most stream fin reset) k.1 y) ∙ sym k.1
+    by (Truncated n) x k =
+        let z = subst (Meets most stream fin reset) k.1 y in
+        ap (λ (m : ℕ). Truncated m) (x.1 ∙ sym z.1) ∙ sym k.1
+    by Reset x k = sym k
+    by other x k = absurd x

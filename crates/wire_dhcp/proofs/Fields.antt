@@ -1,9 +1,8 @@
 -- Fields of a message and the options in them.
-use Rattle.std.proofs.Common.{◌≡◌, ◌≢◌, ℕ, zero, suc, ◌+◌, ◌-◌, ◌≤◌, ◌<◌, ◌==◌, Bool, true, false, ◌&&◌, nat_le, List, [], ◌∷◌, ◌++◌, length, get_or, take, drop, filter, Option, Some, None, option_map, refl, sym, ap, ◌∙◌, add_assoc, zero-add, subst, cond, arith}
+use Rattle.std.proofs.Common.{◌≡◌, ◌≢◌, ℕ, zero, suc, ◌+◌, ◌≤◌, ◌<◌, ◌==◌, Bool, true, false, ◌&&◌, nat_le, List, [], ◌∷◌, ◌++◌, length, get_or, take, filter, Option, Some, None, option_map, refl, sym, ap, ◌∙◌, zero-add, subst, cond, arith}
 use Rattle.std.proofs.lemmas.Bool.Decides.{nat_tests}
-use Rattle.std.proofs.lemmas.List.{take_rest}
 use Rattle.wire_dhcp.specs.Filling.{Holds, filled}
-use Rattle.wire_dhcp.specs.Message.{until_zero, options_field, file_options, sname_options, items_of, option_of, is_readable, has_front, are_ended, octet_of}
+use Rattle.wire_dhcp.specs.Message.{until_zero, options_field, file_options, sname_options, items_of, option_of, is_readable, has_front, octet_of}
 use Rattle.wire_dhcp.specs.Options.{Item, items_in, count_of, value_of, continued}
 use Rattle.wire_dhcp.proofs.Joins.{value_append, holds-nothing}
 

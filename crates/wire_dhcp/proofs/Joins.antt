@@ -1,8 +1,8 @@
 -- Values of one code, joined in a room.
-use Rattle.std.proofs.Common.{◌≡◌, ℕ, zero, suc, ◌+◌, ◌-◌, ◌≤◌, ◌<◌, ◌==◌, ◌≢◌, Bool, true, false, List, [], ◌∷◌, ◌++◌, length, take, drop, Option, Some, None, refl, sym, ap, ◌∙◌, append_assoc, length-append, subst, option_map, unwrap_or, if◌then◌else◌, arith, min, zero-add}
+use Rattle.std.proofs.Common.{◌≡◌, ℕ, zero, suc, ◌+◌, ◌-◌, ◌≤◌, ◌==◌, ◌≢◌, true, false, List, [], ◌∷◌, ◌++◌, length, take, drop, Option, Some, None, refl, sym, ap, ◌∙◌, append_assoc, length-append, subst, unwrap_or, arith, min, zero-add}
 use Rattle.std.proofs.lemmas.Bool.Decides.{nat_tests}
 use Rattle.std.proofs.lemmas.List.{length-take-le}
-use Rattle.wire_dhcp.specs.Filling.{Holds, filled, laid_at}
+use Rattle.wire_dhcp.specs.Filling.{Holds, laid_at}
 use Rattle.wire_dhcp.specs.Options.{Item, items_in, continued, own_value, value_of}
 
 -- what was found so far, and what the options left add to it

@@ -1,4 +1,10 @@
+-- texts that grow in front of a room
+pub mod Cursor
+-- fields of a message and the options in them
 pub mod Fields
+-- values of one code, joined in a room
 pub mod Joins
+-- values of options, as they are read from a room
 pub mod Values
+-- steps over options
 pub mod Walking

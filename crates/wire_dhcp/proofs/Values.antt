@@ -1,13 +1,12 @@
 -- Values of options, as they are read from a room.
-use Rattle.std.proofs.Common.{◌≡◌, ◌≢◌, ℕ, zero, suc, ◌+◌, ◌-◌, ◌≤◌, ◌<◌, ◌==◌, Bool, true, false, ◌&&◌, nat_le, List, [], ◌∷◌, ◌++◌, length, get_or, take, drop, filter, Option, Some, None, option_map, refl, sym, ap, ◌∙◌, append_assoc, cond, arith}
-use Rattle.std.proofs.lemmas.Bool.Decides.{nat_tests}
+use Rattle.std.proofs.Common.{◌≡◌, ◌≢◌, ℕ, zero, suc, ◌+◌, ◌-◌, ◌≤◌, ◌<◌, ◌==◌, Bool, true, false, ◌&&◌, List, [], ◌∷◌, ◌++◌, length, get_or, take, drop, filter, Option, Some, None, option_map, refl, sym, ap, ◌∙◌, append_assoc, cond, arith}
 use Rattle.std.proofs.lemmas.List.{take_all, take_at, take_rest, take_more}
 use Rattle.std.specs.Prelude.{bytes_eq, codes, map}
 use Rattle.byteorder.specs.Endian.{big_number}
 use Rattle.efi_base.specs.Addresses.{is_unicast}
 use Rattle.efi_base.specs.declared.plain.Ip4.{Ip4}
 use Rattle.wire_dhcp.specs.Filling.{filled, laid_at}
-use Rattle.wire_dhcp.specs.Leases.{without_zeros, behind_zero, addresses_in, unicast_in, servers_of}
+use Rattle.wire_dhcp.specs.Leases.{without_zeros, behind_zero, addresses_in, unicast_in}
 use Rattle.efi_base.specs.declared.plain.Mac.{Mac}
 use Rattle.wire_dhcp.specs.declared.message.DhcpFixed.{DhcpFixed}
 use Rattle.wire_dhcp.specs.declared.says.Reply.{Reply}

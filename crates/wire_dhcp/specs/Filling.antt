@@ -1,5 +1,5 @@
 -- Where the octets of an option lie in a room.
-use Rattle.std.specs.Prelude.{◌≡◌, ℕ, zero, suc, List, [], ◌∷◌, length, Option, Some, None, option_map}
+use Rattle.std.specs.Prelude.{◌≡◌, ℕ, zero, suc, List, [], ◌∷◌, ◌++◌, length, drop, Option, Some, None, option_map}
 
 -- the room with these octets in it from this place on, as many as fit
 abbrev pub laid_at : ℕ → List ℕ → List ℕ → List ℕ
@@ -17,3 +17,8 @@ filled (Some value) room = laid_at 0 value room
 pub record Holds (value : Option (List ℕ)) (found : Option ℕ) (before room : List ℕ) : Type 0 where
   pub size : found ≡ option_map length value
   pub text : room ≡ filled value before
+
+-- the room has this text in front, of so many octets, and is as it was before behind it
+pub record Stands (text before : List ℕ) (place : ℕ) (room : List ℕ) : Type 0 where
+  pub size : place ≡ length text
+  pub room_is : room ≡ text ++ drop place before

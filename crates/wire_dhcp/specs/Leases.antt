@@ -1,5 +1,5 @@
 -- Leases (RFC 2131, section 3.1; RFC 2132). Times are in seconds.
-use Rattle.std.specs.Prelude.{ℕ, ◌+◌, ◌*◌, ◌/◌, ◌^◌, ◌==◌, ◌&&◌, nat_le, nat_lt, Bool, List, [], ◌∷◌, ◌++◌, zero, suc, length, take, map, filter, Option, Some, None, option_map, if◌then◌else◌}
+use Rattle.std.specs.Prelude.{ℕ, ◌*◌, ◌/◌, ◌^◌, ◌==◌, ◌&&◌, nat_le, nat_lt, List, [], ◌∷◌, zero, suc, length, take, map, filter, Option, Some, None, option_map, if◌then◌else◌}
 use Rattle.byteorder.specs.Endian.{big_number}
 use Rattle.efi_base.specs.Addresses.{is_mask, is_unicast}
 use Rattle.efi_base.specs.declared.plain.Ip4.{Ip4}

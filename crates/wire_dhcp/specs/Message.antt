@@ -1,6 +1,6 @@
 -- DHCP messages (RFC 2131, section 2): 236 octets of fixed fields, a cookie of four, and options. Numbers have their highest
 -- octet first.
-use Rattle.std.specs.Prelude.{ℕ, zero, suc, ◌==◌, ◌&&◌, ◌||◌, not, nat_le, Bool, true, List, [], ◌∷◌, ◌++◌, length, take, drop, slice_index, Option, Some, None, if◌then◌else◌}
+use Rattle.std.specs.Prelude.{ℕ, zero, suc, ◌==◌, ◌&&◌, ◌||◌, not, nat_le, Bool, List, [], ◌∷◌, ◌++◌, length, take, drop, slice_index, Option, Some, None, if◌then◌else◌}
 use Rattle.byteorder.specs.Endian.{big_number}
 use Rattle.wire_dhcp.specs.declared.message.DhcpFixed.{DhcpFixed}
 use Rattle.wire_dhcp.specs.Options.{Item, items_in, is_ended, value_of, count_of}

@@ -1,5 +1,5 @@
 -- One step of the walk over options.
-use Rattle.std.specs.Prelude.{◌≡◌, ◌<◌, ◌+◌, ℕ, Bool, true, false, List, [], ◌∷◌, length}
+use Rattle.std.specs.Prelude.{◌≡◌, ◌<◌, ◌+◌, ℕ, Bool, true, false, List, [], ◌∷◌, length, map}
 use Rattle.wire_dhcp.specs.declared.options.DhcpOption.{DhcpOption}
 use Rattle.wire_dhcp.specs.declared.options.Front.{Front}
 use Rattle.wire_dhcp.specs.declared.options.Front.TheVariants.{Whole, End, Cut}
@@ -25,3 +25,6 @@ abbrev pub FrontIs : List ℕ → Front → Type 0
 FrontIs octets (Whole option rest) = Begins octets (item_seen option) rest.now
 FrontIs octets End = HasNone octets true
 FrontIs octets Cut = HasNone octets false
+
+abbrev pub items_seen : List DhcpOption → List Item
+items_seen options = map item_seen options

@@ -12,9 +12,15 @@ mod message;
 mod options;
 // what a message says to a station
 mod says;
+// the messages that a station sends
+mod sending;
+// messages and options, written
+mod writing;
 
 pub use choosing::{Choice, ChooseRule, choice_of};
 pub use lease::{Lease, read_lease};
 pub use message::{Dhcp, DhcpFixed, read_dhcp};
 pub use options::DhcpOption;
 pub use says::{Offer, Reply, read_reply};
+pub use sending::{write_discover, write_release, write_renewal, write_request};
+pub use writing::write_dhcp;

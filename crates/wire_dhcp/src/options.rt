@@ -157,7 +157,7 @@ fn put_at(octets: &[u8], place: usize, room: &mut [u8])
     put_within(&octets[..count], place, room);
 }
 
-fn put_within(octets: &[u8], place: usize, room: &mut [u8])
+pub(crate) fn put_within(octets: &[u8], place: usize, room: &mut [u8])
     requires { place + length octets.now ≤ length room.old }
     ensures { room.new ≡ (take place room.old ++ octets.now) ++ drop (place + length octets.now) room.old }
 {

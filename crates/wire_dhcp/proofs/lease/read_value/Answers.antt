@@ -1,5 +1,5 @@
 -- A room as long as the value holds all of it.
-use Rattle.std.proofs.Common.{◌≡◌, length, sym, ap, ◌∙◌, Some, arith}
+use Rattle.std.proofs.Common.{length, sym, ap, ◌∙◌, Some, arith}
 use Rattle.wire_dhcp.proofs.Values.{value-whole, vec-filled}
 use Rattle.wire_dhcp.proofs.lease.read_value.Goals as goal
 

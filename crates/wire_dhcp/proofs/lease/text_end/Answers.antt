@@ -1,5 +1,5 @@
 -- The last octet that isn't zero ends the text.
-use Rattle.std.proofs.Common.{◌≡◌, ◌+◌, ◌∙◌, ap, take, arith}
+use Rattle.std.proofs.Common.{◌∙◌, ap, take, arith}
 use Rattle.std.proofs.lemmas.List.{take_all}
 use Rattle.wire_dhcp.specs.Leases.{without_zeros}
 use Rattle.wire_dhcp.proofs.Values.{zeros-more, zeros-end}

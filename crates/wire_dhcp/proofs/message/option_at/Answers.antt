@@ -1,5 +1,4 @@
 -- The values of all fields are joined.
-use Rattle.std.proofs.Common.{subst}
 use Rattle.wire_dhcp.proofs.Fields.{join-fields, joins-as}
 use Rattle.wire_dhcp.proofs.message.option_at.Goals as goal
 

@@ -1,5 +1,5 @@
 -- What was found so far, continued by the rest, is what all of it gives.
-use Rattle.std.proofs.Common.{◌≡◌, ◌≤◌, ◌+◌, ℕ, List, Option, length, unwrap_or}
+use Rattle.std.proofs.Common.{◌≤◌, ◌+◌, ℕ, List, Option, length, unwrap_or}
 use Rattle.wire_dhcp.specs.Filling.{Holds}
 use Rattle.wire_dhcp.specs.Options.{items_in}
 use Rattle.wire_dhcp.proofs.Joins.{IsOnTheWay}

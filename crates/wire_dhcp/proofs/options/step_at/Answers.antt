@@ -1,6 +1,6 @@
 -- What stands behind the padding.
-use Rattle.std.proofs.Common.{◌<◌, ◌≤◌, length, refl, get_or, arith}
-use Rattle.wire_dhcp.proofs.Walking.{at-end, at-code, at-cut, at-option, behind-none, behind-option}
+use Rattle.std.proofs.Common.{◌<◌, length, refl, arith}
+use Rattle.wire_dhcp.proofs.Walking.{at-cut, at-option, behind-none, behind-option}
 use Rattle.wire_dhcp.proofs.options.step_at.Goals as goal
 
 pub returns-then-rest-end : goal.returns-then-rest-end

@@ -1,5 +1,4 @@
 -- The value lies behind what was found before.
-use Rattle.std.proofs.Common.{◌≡◌, sym}
 use Rattle.wire_dhcp.specs.Walk.{item_seen}
 use Rattle.wire_dhcp.proofs.Joins.{holds-more}
 use Rattle.wire_dhcp.proofs.options.with_value.Goals as goal

@@ -40,5 +40,5 @@ piece_octets (Octets octets) = octets
 piece_octets (Fill count first) = map (fill_octet first) (range_with_len 0 count)
 
 -- the image: its pieces joined in order
-abbrev pub image_octets : List Piece → List ℕ
+unfoldable pub image_octets : List Piece → List ℕ
 image_octets pieces = flat_map piece_octets pieces

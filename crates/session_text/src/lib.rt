@@ -13,6 +13,8 @@ mod lan;
 mod line;
 // names, their addresses and aliases
 mod names;
+// an image by its pieces
+mod pieces;
 // what a line says behind others
 mod put;
 // things that are said once
@@ -40,6 +42,7 @@ pub use image::{Piece, piece_length};
 pub use lan::{Offer, Offers, Terms};
 pub use line::Version;
 pub use names::{AddressRow, AliasRow, Names};
+pub use pieces::{copy_image, image_length, image_octet};
 pub use reader::SessionReader;
 pub use rows::Rows;
 pub use schedule::{Direction, Rule, Select};

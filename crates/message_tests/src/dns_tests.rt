@@ -269,7 +269,12 @@ fn queries(rt: HostRuntime) {
     let q = address_question(0x1234, Name::from_slice(b"boot.example"));
     assert_eq!(rt; query_octets(&q), *octets);
     let seen = match read_query(octets) {
-        Ok(q) => (q.id, q.rd, q.kind, q.name.as_slice() == b"boot.example".as_slice()),
+        Ok(q) => (
+            q.id,
+            q.rd,
+            q.kind,
+            q.name.as_slice() == b"boot.example".as_slice(),
+        ),
         Err(_) => (0, false, 0, false),
     };
     assert_eq!(rt; seen, (0x1234, true, 1, true));

@@ -428,7 +428,6 @@ module _ (r : Reading) (placed : List ℕ) (most : ℕ) (stream : List ℕ) (fin
         s.heads,
         (ok, sym s.says.coding_is ∙ w.1, subst (λ (f : Framing). IsLength f s.rest n) (sym (framing_200 ok)) is, w.3),
       )
-
   from_told (Truncated n) w = (w.0, w.1 ∙ all)
   from_told Reset w = w
   from_told other w = absurd w

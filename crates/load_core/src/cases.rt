@@ -55,12 +55,7 @@ fn case_by_coding(
 }
 
 /// The case that the final head and the length of its body tell, or the other one.
-fn case_by_head(
-    info: HeadInfo,
-    len: u64,
-    most: u32,
-    otherwise: Option<LoadEnd>,
-) -> Option<LoadEnd>
+fn case_by_head(info: HeadInfo, len: u64, most: u32, otherwise: Option<LoadEnd>) -> Option<LoadEnd>
     ensures { result ≡ case_by_head info len most otherwise }
 {
     if info.status == OK {

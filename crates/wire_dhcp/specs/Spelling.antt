@@ -1,9 +1,8 @@
 -- The octets of a message (RFC 2131, section 2; RFC 2132, section 2).
-use Rattle.std.specs.Prelude.{ℕ, ◌-◌, ◌<◌, ◌^◌, ◌≡◌, ◌==◌, ◌&&◌, Bool, true, not, nat_le, List, [], ◌∷◌, ◌++◌, length, replicate}
+use Rattle.std.specs.Prelude.{ℕ, ◌-◌, ◌==◌, ◌&&◌, Bool, not, nat_le, List, [], ◌∷◌, ◌++◌, length, replicate}
 use Rattle.std.specs.List.{list_all}
 use Rattle.byteorder.specs.Endian.{big_bytes}
 use Rattle.wire_dhcp.specs.declared.message.DhcpFixed.{DhcpFixed}
-use Rattle.wire_dhcp.specs.Message.{fixed_of, is_readable, items_of}
 use Rattle.wire_dhcp.specs.Options.{Item, count_of}
 
 abbrev pub option_text : Item → List ℕ
@@ -35,18 +34,3 @@ is_writable item = nat_le 1 item.code && (nat_le item.code 254 && (not (item.cod
 abbrev pub can_write : DhcpFixed → List Item → Bool
 can_write f items =
     list_all (λ octet. not (octet == 0)) f.file && (nat_le (length f.file) 128 && (list_all is_writable items && count_of 53 items == 1))
-
--- the fields fit their places
-pub record Fits (f : DhcpFixed) : Type 0 where
-  pub xid : f.xid < 2 ^ 32
-  pub flags : f.flags < 2 ^ 16
-  pub ciaddr : f.ciaddr.0 < 2 ^ 32
-  pub yiaddr : f.yiaddr.0 < 2 ^ 32
-  pub siaddr : f.siaddr.0 < 2 ^ 32
-  pub mac : length f.mac.0 ≡ 6
-
--- the octets are a message, and are read as these fields and options
-pub record ReadsBack (f : DhcpFixed) (items : List Item) (octets : List ℕ) : Type 0 where
-  pub readable : is_readable octets ≡ true
-  pub fixed : fixed_of octets ≡ f
-  pub options : items_of octets ≡ items

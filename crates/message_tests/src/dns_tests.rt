@@ -192,21 +192,27 @@ fn chains(rt: HostRuntime) {
     }
 }
 
-/// Rows by their places, as texts: the owner, the seconds, and a name where the row says one.
+/// Whether a row says this name, or an address where the name is empty.
+fn says(value: &RowValue, name: &[u8]) -> bool {
+    match value {
+        RowValue::At(_) => name.is_empty(),
+        RowValue::Alias(next) => next.as_slice() == name,
+        RowValue::Pointer(found) => found.as_slice() == name,
+    }
+}
+
+/// Whether the row at this place has this owner, these seconds, and says this name. None: there is no row.
 fn is_row_at(octets: &[u8], n: u32, want: Option<(&[u8], u32, &[u8])>) -> bool {
     let Ok(answer) = read_answer(octets) else {
         return false;
     };
-    match answer.row(n) {
-        Some(row) => match row.value {
-            RowValue::At(_) => want == Some((row.name.as_slice(), row.secs, b"")),
-            RowValue::Alias(name) => want == Some((row.name.as_slice(), row.secs, name.as_slice())),
-            RowValue::Pointer(name) => {
-                want == Some((row.name.as_slice(), row.secs, name.as_slice()))
-            }
-        },
-        None => want.is_none(),
-    }
+    let Some(row) = answer.row(n) else {
+        return want.is_none();
+    };
+    let Some((owner, secs, name)) = want else {
+        return false;
+    };
+    row.name.as_slice() == owner && row.secs == secs && says(&row.value, name)
 }
 
 /// BIND: an alias, an OPT row among the answers, an address, and a name that is pointed to.

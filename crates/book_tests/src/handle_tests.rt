@@ -1,5 +1,5 @@
 //! Children under handles.
-use crate::words::{Nic, core_at, post, serial_at, serial_of};
+use crate::words::{Nic, core_at, post, serial_of};
 use efi_base::Refuse;
 use efi_book::Children;
 use std::test::Fail;
@@ -37,9 +37,6 @@ fn stale(rt: HostRuntime) -> Result<(), Fail> {
         (core.mode(again), core.mode(kept)),
         (Ok(None), Ok(Some(5)))
     );
-    for (i, serial) in [(0, Some(2)), (1, Some(3)), (2, None)] {
-        assert_eq!(rt; serial_at(&core, i), serial);
-    }
     assert_eq!(rt; core.configure(kept, Some(6)), Err(Refuse::AlreadyStarted));
     assert!(rt; core.is_callers(again));
     Ok(())

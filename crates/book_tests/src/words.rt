@@ -50,11 +50,3 @@ pub fn token_of(done: Option<Done<Frame>>) -> Option<u64> {
         None => None,
     }
 }
-
-/// The serial of the caller's child at this place in the order of making.
-pub fn serial_at(core: &Nics, i: usize) -> Option<u64> {
-    if i < core.children.len() {
-        return Some(core.children.at(i).serial);
-    }
-    None
-}

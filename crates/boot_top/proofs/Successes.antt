@@ -6,7 +6,7 @@ use Rattle.doc_text.specs.Reports.{report_text}
 use Rattle.wire_pcap.specs.Reading.{IsWhole as IsWholeCapture}
 use Rattle.efi_base.specs.declared.load_end.LoadEnd.{LoadEnd}
 use Rattle.efi_base.specs.declared.load_end.LoadEnd.TheVariants.{Success, NoOffer, NoAck, Nak, BadUri, Unsupported, NoDns, NameError, NoAddress, DnsTimeout, NoRoute, NoMapping, Refused}
-use Rattle.efi_base.specs.declared.load_end.LoadEnd.TheVariants.{ConnectTimeout, SendTimeout, BadResponse, HttpStatus, Coding, BufferTooSmall, Truncated, Reset, Idle, OutOfTime, Aborted, OutOfResources, NoConnection}
+use Rattle.efi_base.specs.declared.load_end.LoadEnd.TheVariants.{ConnectTimeout, SendTimeout, BadResponse, TooManyRedirects, HttpStatus, Coding, BufferTooSmall, Truncated, Reset, Idle, OutOfTime, Aborted, OutOfResources, NoConnection}
 use Rattle.tap_core.specs.declared.passive.Seen.{Seen}
 use Rattle.tap_core.specs.Shows.{Telling, Shows}
 use Rattle.tap_core.specs.Watching.{IsSeen}
@@ -32,6 +32,7 @@ number-of Refused s = absurd (cc)
 number-of ConnectTimeout s = absurd (cc)
 number-of SendTimeout s = absurd (cc)
 number-of (BadResponse n) s = absurd (cc)
+number-of TooManyRedirects s = absurd (cc)
 number-of (HttpStatus n) s = absurd (cc)
 number-of (Coding n) s = absurd (cc)
 number-of (BufferTooSmall n) s = absurd (cc)

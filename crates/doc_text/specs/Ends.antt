@@ -49,6 +49,7 @@ load_word load.Refused = codes "refused"
 load_word load.ConnectTimeout = codes "connect-timeout"
 load_word load.SendTimeout = codes "send-timeout"
 load_word (load.BadResponse part) = codes "bad-response " ++ part_word part
+load_word load.TooManyRedirects = codes "too-many-redirects"
 load_word (load.HttpStatus n) = numbered (codes "http-status") n
 load_word (load.Coding field) = codes "coding " ++ coding_word field
 load_word (load.BufferTooSmall n) = numbered (codes "buffer-too-small") n

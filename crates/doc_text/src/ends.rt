@@ -48,6 +48,7 @@ impl fmt::Display for LoadWord {
             LoadEnd::ConnectTimeout => write!(f, "connect-timeout"),
             LoadEnd::SendTimeout => write!(f, "send-timeout"),
             LoadEnd::BadResponse(part) => write!(f, "bad-response {}", part_word(*part)),
+            LoadEnd::TooManyRedirects => write!(f, "too-many-redirects"),
             LoadEnd::HttpStatus(status) => write!(f, "http-status {status}"),
             LoadEnd::Coding(field) => write!(f, "coding {}", coding_word(*field)),
             LoadEnd::BufferTooSmall(count) => write!(f, "buffer-too-small {count}"),

@@ -172,6 +172,7 @@ fn words_by_the_table(rt: HostRuntime) -> Result<(), Fail> {
             Load(LoadEnd::BadResponse(Part::Trailer)),
             "bad-response trailer",
         ),
+        (Load(LoadEnd::TooManyRedirects), "too-many-redirects"),
         (Load(LoadEnd::HttpStatus(404)), "http-status 404"),
         (
             Load(LoadEnd::Coding(CodingField::Content)),

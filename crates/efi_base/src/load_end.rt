@@ -45,6 +45,8 @@ pub enum LoadEnd {
     SendTimeout,
     /// The stream is no response, whatever follows.
     BadResponse(Part),
+    /// The head is one more redirect than a load follows.
+    TooManyRedirects,
     /// The status of the response isn't 200.
     HttpStatus(u16),
     /// The response has a coding that isn't undone here.

@@ -1,6 +1,7 @@
 //! A string of octets that owns its memory, seen by contracts as a list.
-ghost use Rattle.std.specs.Prelude.{◌≡◌, ◌==◌, ℕ, List, [], length};
+ghost use Rattle.std.specs.Prelude.{◌≡◌, ◌==◌, ℕ, List, [], length, IfOk};
 
+use crate::fault::NoMemory;
 use std::alloc::Global;
 use std::marker::Model;
 
@@ -26,6 +27,14 @@ impl Bytes {
         Bytes {
             octets: Vec::new(alloc),
         }
+    }
+
+    /// These octets, in memory of their own.
+    pub fn copy_of(alloc: Global, octets: &[u8]) -> Result<Bytes, NoMemory>
+        ensures { IfOk result (λ b. b ≡ octets.now) }
+    {
+        let octets = octets.to_vec(alloc)?;
+        Ok(Bytes { octets })
     }
 
     /// The octets of a vector, without taking memory.

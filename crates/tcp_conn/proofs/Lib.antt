@@ -1,0 +1,2 @@
+-- the number of a sender's SYN stays
+pub mod FirstNumbers

@@ -16,3 +16,5 @@ pub mod Calls
 pub mod Owed
 -- what a contract sees of a connection, and what is true of each
 pub mod Inside
+-- what each segment that goes is
+pub mod TrueSegments

@@ -1,9 +1,11 @@
 //! The connection: its facts, what a segment, a tick and the user's calls do to them, and what goes out. An event begins
 //! with a segment or a tick and is closed by taking all its segments; the user's calls stand in between.
-ghost use Rattle.std.specs.Prelude.{◌≡◌, ◌+◌, ◌-◌, ◌^◌, ◌<◌, ◌≤◌, ◌==◌, ◌&&◌, ◌++◌, ℕ, List, IfOk, IfSome, if◌then◌else◌, true, length, take, drop, min};
+ghost use Rattle.std.specs.Prelude.{◌⊎◌, ◌≡◌, ◌+◌, ◌-◌, ◌^◌, ◌<◌, ◌≤◌, ◌==◌, ◌&&◌, ◌++◌, ℕ, List, IfOk, IfSome, if◌then◌else◌, true, length, take, drop, min};
 ghost use Rattle.wire_l4.specs.Seen.{segment_seen};
 ghost use Rattle.tcp_recv.specs.Receiver.{accepted_of, is_ended, untaken};
 ghost use Rattle.tcp_send.specs.Sender.{pushed_of};
+ghost use Rattle.tcp_send.specs.Stream.{Keeps};
+ghost use Rattle.tcp_conn.specs.TrueSegments.{IsTrueOut, IsPlain, IsSynOf, IsPartOf};
 ghost use Rattle.tcp_conn.specs.Connection.{Connection, is_over};
 ghost use Rattle.tcp_conn.specs.Segments.{ended_by, owing_ack, owing_reset, moved, after_text, after_reset, after_syn_again, opened_by, in_syn_sent, established_by, in_syn_received, acknowledged_by, in_synchronized, after_segment};
 ghost use Rattle.tcp_conn.specs.Calls.{opening, listening, after_tick, pushed_count, after_pushing, after_abort, after_close, after_taking, begun, shown_state, next_event};
@@ -250,6 +252,7 @@ impl Conn {
     pub fn take_segment(&mut self) -> Option<SegOut>
         ensures segment { result ≡ segment_out self.old }
         ensures connection { self.new ≡ after_out self.old }
+        ensures true_segment { (text : List ℕ) → Keeps text self.old.sender → IfSome result (IsTrueOut text self.old) }
     {
         let Some(segment) = self.take_due() else {
             return self.take_rest();
@@ -417,6 +420,7 @@ impl Conn {
     fn take_due(&mut self) -> Option<SegOut>
         ensures segment { result ≡ due_in self.old.state self.old }
         ensures connection { self.new ≡ after_due_in self.old.state self.old }
+        ensures true_segment { (text : List ℕ) → Keeps text self.old.sender → IfSome result (IsTrueOut text self.old) }
     {
         match self.state {
             ConnState::SynSent | ConnState::SynReceived => self.take_opening(),
@@ -428,6 +432,7 @@ impl Conn {
     fn take_opening(&mut self) -> Option<SegOut>
         ensures segment { result ≡ opening_out self.old }
         ensures connection { self.new ≡ after_opening self.old }
+        ensures plain { IfSome result (λ out. IsPlain out ⊎ IsSynOf self.old out) }
     {
         if let Some(seq) = self.reset_owed {
             self.reset_owed = None;
@@ -448,6 +453,7 @@ impl Conn {
     fn take_stream(&mut self) -> Option<SegOut>
         ensures segment { result ≡ stream_out self.old }
         ensures connection { self.new ≡ after_stream self.old }
+        ensures part { (text : List ℕ) → Keeps text self.old.sender → IfSome result (IsPartOf text self.old) }
     {
         let cut = self.send.next_segment(self.at);
         self.state = self
@@ -462,6 +468,7 @@ impl Conn {
     fn take_rest(&mut self) -> Option<SegOut>
         ensures segment { result ≡ rest_out self.old }
         ensures connection { self.new ≡ after_rest self.old }
+        ensures plain { IfSome result IsPlain }
     {
         if self.state.is_closed() {
             return None;

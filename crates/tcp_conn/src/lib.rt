@@ -8,6 +8,8 @@ mod acceptance;
 mod conn;
 // what a cut does to a receiver
 mod hearing;
+// what holds for every connection
+mod laws;
 // segments that go out
 mod out;
 // when a SYN goes again, and when TIME-WAIT ends
@@ -18,5 +20,6 @@ mod side;
 mod state;
 
 pub use conn::Conn;
+pub use laws::ended_connections_are_silent;
 pub use out::SegOut;
 pub use state::{ConnEnd, ConnState};

@@ -26,3 +26,13 @@ returns-in-Some-clause-segment c = rw (← c.self.view_is)
     (ap (λ x. Some x) (c.cut_out.ensures
     ∙ ap (λ n. cut_out (record (seen c.self.inside) { sender = record c.self.inside.send { iss = n } }) c.in-Some.cut) (ap (λ (s : Sender). s.iss) c.next_segment-cut.ensures.sender ∙ now-iss c.self.inside.send c.self.inside.at))
     ∙ ap (option_map (cut_out (seen c.self.inside))) (c.in-Some.ensures.cut))
+
+pub returns-in-Some-clause-part : goal.returns-in-Some-clause-part
+returns-in-Some-clause-part c = rw (← c.self.view_is)
+    (λ text keeps. record {
+      cut = c.in-Some.cut;
+      true_cut = c.in-Some.ensures.true_cut text keeps;
+      segment = c.cut_out.ensures
+          ∙ ap (λ n. cut_out (record (seen c.self.inside) { sender = record c.self.inside.send { iss = n } }) c.in-Some.cut)
+          (ap (λ (s : Sender). s.iss) c.next_segment-cut.ensures.sender ∙ now-iss c.self.inside.send c.self.inside.at);
+    })

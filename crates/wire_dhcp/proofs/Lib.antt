@@ -1,3 +1,5 @@
+-- what was written is read again
+pub mod Again
 -- texts that grow in front of a room
 pub mod Cursor
 -- fields of a message and the options in them
@@ -6,5 +8,7 @@ pub mod Fields
 pub mod Joins
 -- values of options, as they are read from a room
 pub mod Values
+-- the lengths of the messages that a station sends
+pub mod Sizes
 -- steps over options
 pub mod Walking

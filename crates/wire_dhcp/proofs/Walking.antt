@@ -8,12 +8,12 @@ use Rattle.wire_dhcp.specs.declared.options.Front.{Front}
 use Rattle.wire_dhcp.specs.declared.options.Front.TheVariants.{Whole, End, Cut}
 use Rattle.wire_dhcp.specs.Walk.{FrontIs, Begins, HasNone}
 
-items_skip : (left : ℕ) (octets : List ℕ) → items_from left octets ≡ items_in (drop left octets)
+pub items_skip : (left : ℕ) (octets : List ℕ) → items_from left octets ≡ items_in (drop left octets)
 items_skip zero octets = refl
 items_skip (suc left) [] = refl
 items_skip (suc left) (octet ∷ octets) = items_skip left octets
 
-ends_skip : (left : ℕ) (octets : List ℕ) → ends_from left octets ≡ is_ended (drop left octets)
+pub ends_skip : (left : ℕ) (octets : List ℕ) → ends_from left octets ≡ is_ended (drop left octets)
 ends_skip zero octets = refl
 ends_skip (suc left) [] = refl
 ends_skip (suc left) (octet ∷ octets) = ends_skip left octets

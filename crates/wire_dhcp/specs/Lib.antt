@@ -4,6 +4,8 @@ pub mod Choices
 pub mod Filling
 -- leases (RFC 2131, section 3.1; RFC 2132)
 pub mod Leases
+-- what the octets of a message are read as
+pub mod Meaning
 -- DHCP messages (RFC 2131, section 2): 236 octets of fixed fields, a cookie of four, and options
 pub mod Message
 -- options one behind the other (RFC 2132, section 2): a code, the length of the value, the value

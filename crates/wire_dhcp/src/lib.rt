@@ -4,6 +4,8 @@
 
 // which offer a station takes
 mod choosing;
+// what holds of the format
+mod laws;
 // leases
 mod lease;
 // messages: fixed fields and options
@@ -18,6 +20,7 @@ mod sending;
 mod writing;
 
 pub use choosing::{Choice, ChooseRule, choice_of};
+pub use laws::{messages_of_a_station_have_their_lengths, written_message_is_read_again};
 pub use lease::{Lease, read_lease};
 pub use message::{Dhcp, DhcpFixed, read_dhcp};
 pub use options::DhcpOption;

@@ -21,7 +21,7 @@ text-whole [] none = refl
 text-whole (zero ∷ field) none = absurd (none 0 (omega arith) refl)
 text-whole (suc c ∷ field) none = ap (λ l. suc c ∷ l) (text-whole field (λ k l. none (suc k) (omega arith)))
 
-count_append : (code : ℕ) (a b : List Item) → count_of code (a ++ b) ≡ count_of code a + count_of code b
+pub count_append : (code : ℕ) (a b : List Item) → count_of code (a ++ b) ≡ count_of code a + count_of code b
 count_append code [] b = sym (zero-add (count_of code b))
 count_append code (i ∷ a) b = step (i.code == code) (count_append code a b)
   where

@@ -2,6 +2,8 @@
 pub mod Choices
 -- where the octets of an option lie in a room
 pub mod Filling
+-- the messages by which a server offers and gives a lease (RFC 2131, section 4.3.1)
+pub mod Granted
 -- leases (RFC 2131, section 3.1; RFC 2132)
 pub mod Leases
 -- what the octets of a message are read as

@@ -4,6 +4,8 @@
 
 // which offer a station takes
 mod choosing;
+// the messages of a server
+mod granting;
 // what holds of the format
 mod laws;
 // leases
@@ -20,7 +22,11 @@ mod sending;
 mod writing;
 
 pub use choosing::{Choice, ChooseRule, choice_of};
-pub use laws::{messages_of_a_station_have_their_lengths, written_message_is_read_again};
+pub use granting::{Grant, write_ack, write_offer};
+pub use laws::{
+    answers_of_a_server_are_short, messages_of_a_station_have_their_lengths,
+    written_message_is_read_again,
+};
 pub use lease::{Lease, read_lease};
 pub use message::{Dhcp, DhcpFixed, read_dhcp};
 pub use options::DhcpOption;

@@ -12,6 +12,15 @@ pub struct DhcpOption<'a> {
     pub value: &'a [u8],
 }
 
+impl Default for DhcpOption<'_> {
+    fn default() -> Self {
+        DhcpOption {
+            code: 0,
+            value: &[],
+        }
+    }
+}
+
 /// What stands in front of octets.
 #[derive(Clone, Copy)]
 enum Front<'a> {

@@ -52,7 +52,7 @@ const ACK: u8 = 5;
 const NAK: u8 = 6;
 
 /// What option 60 of an HTTP offer begins with.
-const HTTP_CLIENT: [u8; 10] = *b"HTTPClient";
+pub(crate) const HTTP_CLIENT: [u8; 10] = *b"HTTPClient";
 
 /// What the message says to the station of this Ethernet address, None where it is no offer, ACK or NAK for it.
 #[tactic(auto, unfolding(crate::specs::Replies::reply_of))]

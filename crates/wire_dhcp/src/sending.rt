@@ -165,7 +165,7 @@ pub fn write_release(
     put_padded(&station_fields(mac, xid, ip), &options, room)
 }
 
-fn four_octets(ip: Ip4) -> [u8; 4]
+pub(crate) fn four_octets(ip: Ip4) -> [u8; 4]
     ensures { result ≡ big_bytes 4 ip.0 }
 {
     let mut octets = [0; 4];

@@ -12,7 +12,7 @@ use Rattle.session_text.specs.declared.draft.Draft.{Draft}
 use Rattle.session_text.specs.declared.session.Session.{Session}
 
 -- what was read, and a piece behind it
-read_more : {D : Type 0} (next : D → List ℕ → Option D) (first from : Read D) (fed piece : List ℕ)
+pub read_more : {D : Type 0} (next : D → List ℕ → Option D) (first from : Read D) (fed piece : List ℕ)
     → read_on next first fed ≡ Ok from → read_on next first (fed ++ piece) ≡ read_on next from piece
 read_more {D} next first from fed piece e =
     pieces_read next first fed piece ∙ ap (λ (r : Result (Read D) ℕ). on_ok r (λ s. read_on next s piece)) e
@@ -24,7 +24,7 @@ fed_more old new piece none e fed has =
     (none, read_more session_next (new_read start) (read_so_far old) fed piece has.1 ∙ e)
 
 -- a piece with a bad line, whatever follows
-bad_later : {D : Type 0} (next : D → List ℕ → Option D) (ended : D → Bool) (first : D) (from : Read D) (fed piece more : List ℕ) (n : ℕ)
+pub bad_later : {D : Type 0} (next : D → List ℕ → Option D) (ended : D → Bool) (first : D) (from : Read D) (fed piece more : List ℕ) (n : ℕ)
     → read_on next (new_read first) fed ≡ Ok from → read_on next from piece ≡ Err n
     → text_of next ended first ((fed ++ piece) ++ more) ≡ Err n
 bad_later {D} next ended first from fed piece more n has bad =
@@ -40,7 +40,7 @@ fed_bad old piece (BadAt n) bad fed more has =
 fed_bad old piece OutOfResources bad fed more has = tt
 
 -- the end of all that was fed
-whole_text : {D : Type 0} (next : D → List ℕ → Option D) (ended : D → Bool) (first : D) (from : Read D) (fed : List ℕ)
+pub whole_text : {D : Type 0} (next : D → List ℕ → Option D) (ended : D → Bool) (first : D) (from : Read D) (fed : List ℕ)
     → read_on next (new_read first) fed ≡ Ok from → text_of next ended first fed ≡ at_end next ended from
 whole_text {D} next ended first from fed has = ap (λ (r : Result (Read D) ℕ). on_ok r (at_end next ended)) has
 

@@ -16,7 +16,7 @@ pub enum Piece {
 }
 
 /// The octets of HEX: digits, or `-` for none.
-fn hex_of(alloc: Global, text: &[u8]) -> Result<Option<Bytes>, NoMemory>
+pub fn hex_of(alloc: Global, text: &[u8]) -> Result<Option<Bytes>, NoMemory>
     ensures { IfOk result (λ octets. octets ≡ hex_of text.now) }
 {
     if text == b"-".as_slice() {

@@ -137,7 +137,8 @@ fn put_server(servers: &mut Servers, word: &[u8]) -> bool
     }
 }
 
-fn servers_of(text: &[u8]) -> Option<Servers>
+/// From one address up to three.
+pub fn servers_of(text: &[u8]) -> Option<Servers>
     ensures { result ≡ few_words ip_of 3 text.now }
 {
     let mut servers = Servers::new();

@@ -38,10 +38,10 @@ mod station;
 // words within a line
 mod words;
 
-pub use image::{Piece, piece_length};
-pub use lan::{Offer, Offers, Terms};
-pub use line::Version;
-pub use names::{AddressRow, AliasRow, Names};
+pub use image::{Piece, hex_of, piece_length};
+pub use lan::{Offer, Offers, Terms, servers_of};
+pub use line::{Version, are_visible};
+pub use names::{AddressRow, AliasRow, Names, name_of};
 pub use pieces::{copy_image, image_length, image_octet};
 pub use reader::SessionReader;
 pub use rows::Rows;
@@ -50,3 +50,4 @@ pub use served::{Finish, Framing};
 pub use session::{Lan, Session, Station};
 pub use site::Site;
 pub use station::{Choose, Progress};
+pub use words::{number_in, split, u8_in, u16_in, u32_in, unicast_mac};

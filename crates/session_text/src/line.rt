@@ -112,7 +112,8 @@ fn is_printable(octet: u8) -> bool
     octet >= 0x20 && octet <= 0x7E
 }
 
-fn are_visible(text: &[u8]) -> bool
+/// Whether all octets are ASCII characters that are seen.
+pub fn are_visible(text: &[u8]) -> bool
     ensures { result ≡ list_all is_visible text.now }
 {
     text.iter().all(|octet| is_visible(*octet))

@@ -41,7 +41,8 @@ pub struct Names {
     pub aliases: Rows<AliasRow>,
 }
 
-fn name_of(text: &[u8]) -> Option<Name>
+/// The name that a word is.
+pub fn name_of(text: &[u8]) -> Option<Name>
     ensures { result ≡ name_of text.now }
 {
     if !is_name(text) {

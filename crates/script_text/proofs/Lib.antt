@@ -1,0 +1,2 @@
+-- pieces that are fed one behind the other
+pub mod Feeding

@@ -1,5 +1,13 @@
+-- what the lines of a script say so far, and which line may stand behind them
+pub mod Drafts
 -- children and tokens, told by the order of the lines that create and post
 pub mod Handles
+-- A reader by its fields
+pub mod Inside
+-- A reader of scripts, as others see it
+pub mod Reading
+-- what a whole script says
+pub mod Scripts
 -- what a child is configured with, by its protocol
 pub mod Settings
 -- a line of a script behind its head: a call, a moment, or a frame

@@ -320,7 +320,12 @@ fn get_url(alloc: Global, words: Words<'_>) -> Result<Option<Work>, NoMemory>
 }
 
 /// A work whose octets are kept, by its word and what stands behind it.
-fn kept_work(alloc: Global, proto: Proto, key: &[u8], words: Words<'_>) -> Result<Option<Work>, NoMemory>
+fn kept_work(
+    alloc: Global,
+    proto: Proto,
+    key: &[u8],
+    words: Words<'_>,
+) -> Result<Option<Work>, NoMemory>
     ensures { IfOk result (λ work. work ≡ kept_work proto key.now words.entry) }
 {
     match proto {

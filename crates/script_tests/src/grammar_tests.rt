@@ -185,3 +185,22 @@ fn texts_are_read(rt: HostRuntime) -> Result<(), Fail> {
     }
     Ok(())
 }
+
+/// Where a text is bad whose third line has so many digits.
+fn place_of_digits(rt: &impl Abort, alloc: Global, digits: usize) -> Result<Option<u64>, Fail> {
+    let mut text = b"efiscript 1\ncreate tcp4\npost 1 send ".to_vec(alloc)?;
+    for _digit in 0..digits {
+        text.push(b'0')?;
+    }
+    text.extend_from_slice(b"\nend\n")?;
+    Ok(place_in_one(rt, alloc, text.as_slice()))
+}
+
+#[test]
+fn longest_line(rt: HostRuntime) -> Result<(), Fail> {
+    let lengths = [(65_522, None), (65_524, None), (65_526, Some(24))];
+    for (digits, bad) in lengths {
+        assert_eq!(rt; place_of_digits(&rt, rt.alloc(), digits)?, bad, "{digits}");
+    }
+    Ok(())
+}

@@ -14,7 +14,8 @@ efiscript 1;seed 0;snp start;snp initialize;snp shutdown;snp stop;snp filters 25
 efiscript 1;address 10.0.0.2 255.0.0.0;address off;route add 0.0.0.0 0.0.0.0 10.0.0.9;route remove 0.0.0.0 0.0.0.0 10.0.0.9;end;
 efiscript 1;create mnp;create arp;create ip4;create udp4;create tcp4;create dhcp4;create dns4;create mtftp4;create http;create boot;destroy 10;reset 9;end;
 efiscript 1;create mnp;configure 1 mnp type 65535;configure 1 mnp type 0 unicast multicast broadcast promiscuous;configure 1 mnp type 5 multicast promiscuous;post 1 receive;post 1 send 01:02:03:04:05:06 65535 -;end;
-efiscript 1;create arp;configure 1 arp ip 10.0.0.2 entry 4294967295 tries 10 gap 1;post 1 request 10.0.0.1;arpadd 1 10.0.0.1 02:00:00:00:00:02 fixed;arpadd 1 10.0.0.3 02:00:00:00:00:03 dynamic;arpfind 1 10.0.0.1;arpdelete 1 10.0.0.1;arpflush 1;end;
+efiscript 1;create arp;configure 1 arp ip 10.0.0.2 entry 4294967295 tries 10 gap 1;post 1 request \
+10.0.0.1;arpadd 1 10.0.0.1 02:00:00:00:00:02 fixed;arpadd 1 10.0.0.3 02:00:00:00:00:03 dynamic;arpfind 1 10.0.0.1;arpdelete 1 10.0.0.1;arpflush 1;end;
 efiscript 1;create ip4;configure 1 ip4 proto 255;configure 1 ip4 proto 0 at 10.0.0.2 255.0.0.0;configure 1 ip4 any;configure 1 ip4 any at 10.0.0.2 255.0.0.0;post 1 receive;post 1 send 10.0.0.1 255 00ff;end;
 efiscript 1;create udp4;configure 1 udp4 port 0;configure 1 udp4 port 65535 share at 1.2.3.4 255.0.0.0 peer 5.6.7.8 65535 broadcast timeout 4294967295;post 1 receive;post 1 send 10.0.0.1 65535 6869;end;
 efiscript 1;create tcp4;configure 1 tcp4 port 0 at 1.2.3.4 255.0.0.0 to 5.6.7.8 80;configure 1 tcp4 port 80;post 1 receive 1073741825;post 1 send 41;post 1 connect;post 1 accept;post 1 close;post 1 abort;post a4 receive 0;destroy a4;end;
@@ -25,7 +26,9 @@ efiscript 1;create http;configure 1 http;post 1 get http://10.0.0.1/;post 1 resp
 efiscript 1;create boot;configure 1 boot;post 1 load 1073741825;end;
 efiscript 1;tick 0;tick 0;tick 1099511627776;frame 0000000000000000000000000000;end;
 efiscript 1;snp start;snp initialize;create udp4;create udp4;configure 1 udp4 port 5000 share;configure 2 udp4 port 5000 share;post 1 receive;post 2 receive;post 1 receive;post 1 receive;destroy 1;post 1 receive;cancel 2 2;cancel 2 2;create udp4;post 1 receive;end;
-efiscript 1;snp start;snp initialize;address 10.0.0.2 255.0.0.0;create arp;configure 1 arp ip 10.0.0.2 entry 0 tries 3 gap 1000;post 1 request 10.0.0.1;frame 020000000001020000000002080600010800060400020200000000020a0000010200000000010a000002;post 1 request 10.0.0.1;end;
+efiscript 1;snp start;snp initialize;address 10.0.0.2 255.0.0.0;create arp;configure 1 arp ip 10.0.0.2 entry 0 tries 3 gap 1000;post 1 request \
+10.0.0.1;frame 020000000001020000000002080600010800060400020200000000020a0000010200000000010a000002;post 1 request \
+10.0.0.1;end;
 efiscript 1;snp start;snp initialize;address 10.0.0.2 255.0.0.0;create udp4;configure 1 udp4 port 5000 timeout 500;post 1 send 10.0.0.1 7 6869;post 1 receive;tick 499;tick 500;end;
 efiscript 1;snp start;snp initialize;address 10.0.0.2 255.0.0.0;create tcp4;configure 1 tcp4 port 0 to 10.0.0.1 80;post 1 connect;tick 1000;tick 2000;tick 3000;end;
 efiscript 1;snp start;snp initialize;address 10.0.0.2 255.0.0.0;create dns4;configure 1 dns4 server 10.0.0.1;post 1 resolve boot.example;tick 3000;dnscache 1 a.b 10.0.0.9 60;post 1 resolve a.b;end;

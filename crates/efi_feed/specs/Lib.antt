@@ -1,0 +1,2 @@
+-- an input that goes to a reader in pieces
+pub mod Pieces

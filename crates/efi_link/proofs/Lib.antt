@@ -1,0 +1,2 @@
+-- what a link in memory gives next
+pub mod Nexts

@@ -1,0 +1,6 @@
+use Rattle.std.proofs.Common.{◌≡◌, drop}
+use Rattle.arp_cache.specs.Entries.{mac_of}
+use Rattle.arp_cache.proofs.entries.mac_in.Given as goal
+
+abbrev pub invariant-loop-e : goal.invariant-loop-e
+invariant-loop-e l = mac_of (drop l.e-index l.entries) l.ip.0 ≡ mac_of l.entries l.ip.0

@@ -2,3 +2,7 @@
 pub mod Orders
 -- a list of which a front is mapped
 pub mod Walks
+-- what is known of an address once a packet was heard
+pub mod Heard
+-- the entry that goes first
+pub mod First

@@ -8,9 +8,14 @@ mod cache;
 mod entry;
 // loops over the entries
 mod entries;
+// what holds of reception and of a full cache
+mod laws;
 // the answer to a request
 mod reply;
 
 pub use cache::Cache;
 pub use entry::Entry;
+pub use laws::{
+    another_stations_packet_keeps_the_others, fixed_entries_stay, known_sender_has_what_was_heard,
+};
 pub use reply::reply_to;

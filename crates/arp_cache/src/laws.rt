@@ -1,0 +1,23 @@
+//! What holds of reception and of a full cache: each law is the contract of a function that does nothing.
+ghost use Rattle.std.specs.Prelude.{◌≡◌, ◌≢◌, ℕ, List, Option, Some, None, true, false};
+ghost use Rattle.efi_base.specs.declared.plain.Tick.{Tick as Moment};
+ghost use Rattle.wire_link.specs.declared.resolution.Arp.{Arp as Packet};
+ghost use Rattle.arp_cache.specs.declared.entry.Entry.{Entry as Item};
+ghost use Rattle.arp_cache.specs.Entries.{mac_of, stalest};
+ghost use Rattle.arp_cache.specs.Caches.{has, after_heard};
+
+/// A sender that has an entry is known by the Ethernet address that was heard last, whatever the target.
+pub fn known_sender_has_what_was_heard()
+    ensures { (es : List Item) (m : Packet) (now : Moment) (life : Option ℕ) → has es m.spa.0 ≡ true
+        → mac_of (after_heard es m now life) m.spa.0 ≡ Some m.sha }
+{}
+
+/// A packet to another station says nothing of addresses that aren't its sender's.
+pub fn another_stations_packet_keeps_the_others()
+    ensures { (es : List Item) (m : Packet) (now : Moment) (ip : ℕ) → ip ≢ m.spa.0 → mac_of (after_heard es m now None) ip ≡ mac_of es ip }
+{}
+
+/// The entry that goes first isn't fixed.
+pub fn fixed_entries_stay()
+    ensures { (es : List Item) (e : Item) → stalest es ≡ Some e → e.fixed ≡ false }
+{}

@@ -6,3 +6,5 @@ pub mod Walks
 pub mod Heard
 -- the entry that goes first
 pub mod First
+-- an entry that isn't refused is there
+pub mod Entered

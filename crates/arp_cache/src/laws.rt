@@ -1,10 +1,10 @@
 //! What holds of reception and of a full cache: each law is the contract of a function that does nothing.
-ghost use Rattle.std.specs.Prelude.{◌≡◌, ◌≢◌, ℕ, List, Option, Some, None, true, false};
+ghost use Rattle.std.specs.Prelude.{◌≡◌, ◌≢◌, ◌≤◌, ℕ, List, length, Option, Some, None, true, false};
 ghost use Rattle.efi_base.specs.declared.plain.Tick.{Tick as Moment};
 ghost use Rattle.wire_link.specs.declared.resolution.Arp.{Arp as Packet};
 ghost use Rattle.arp_cache.specs.declared.entry.Entry.{Entry as Item};
 ghost use Rattle.arp_cache.specs.Entries.{mac_of, stalest};
-ghost use Rattle.arp_cache.specs.Caches.{has, after_heard};
+ghost use Rattle.arp_cache.specs.Caches.{has, after_heard, entered, add_refusal};
 
 /// A sender that has an entry is known by the Ethernet address that was heard last, whatever the target.
 pub fn known_sender_has_what_was_heard()
@@ -20,4 +20,9 @@ pub fn another_stations_packet_keeps_the_others()
 /// The entry that goes first isn't fixed.
 pub fn fixed_entries_stay()
     ensures { (es : List Item) (e : Item) → stalest es ≡ Some e → e.fixed ≡ false }
+{}
+
+/// An entry that a call isn't refused for what is there is found afterwards, also in a full cache.
+pub fn entered_entry_is_found()
+    ensures { (es : List Item) (e : Item) → length es ≤ 256 → add_refusal es e.ip.0 true ≡ None → mac_of (entered es e) e.ip.0 ≡ Some e.mac }
 {}

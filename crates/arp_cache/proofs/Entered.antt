@@ -1,5 +1,5 @@
 -- An entry that isn't refused is there once it was entered.
-use Rattle.std.proofs.Common.{◌≡◌, ℕ, ◌+◌, ◌<◌, ◌≤◌, ◌==◌, Bool, true, false, nat_lt, List, [], ◌∷◌, ◌++◌, length, filter, Option, Some, None, refl, sym, ap, ◌∙◌, arith}
+use Rattle.std.proofs.Common.{◌≡◌, ℕ, ◌<◌, ◌≤◌, ◌==◌, Bool, true, false, nat_lt, List, [], ◌∷◌, ◌++◌, length, Option, Some, None, refl, arith}
 use Rattle.std.proofs.lemmas.Bool.Decides.{nat_tests}
 use Rattle.arp_cache.specs.declared.entry.Entry.{Entry}
 use Rattle.arp_cache.specs.Entries.{mac_of, stalest, staler, candidate, has_unfixed}
@@ -120,6 +120,6 @@ entered_found es e l a =
     let kept : List Entry = without e.ip.0 es in
     let short : length kept ≤ 256 = omega (arith, no_longer es e.ip.0, l) in
     let room : length (with_room kept) < 256 =
-      room_at kept (nat_lt (length kept) 256) refl short (gives_up es e.ip.0 (has es e.ip.0) (nat_lt (length es) 256) (has_unfixed es) refl refl refl l a) in
+    room_at kept (nat_lt (length kept) 256) refl short (gives_up es e.ip.0 (has es e.ip.0) (nat_lt (length es) 256) (has_unfixed es) refl refl refl l a) in
     joined (with_room kept) e (nat_lt (length (with_room kept)) 256) refl room
-      (absent_room kept (stalest kept) e.ip.0 (nat_lt (length kept) 256) refl refl (gone es e.ip.0))
+    (absent_room kept (stalest kept) e.ip.0 (nat_lt (length kept) 256) refl refl (gone es e.ip.0))

@@ -1,7 +1,7 @@
 -- The entry that goes first in a full cache.
-use Rattle.std.proofs.Common.{◌≡◌, Bool, true, false, List, [], ◌∷◌, Option, Some, None, refl, arith, All}
+use Rattle.std.proofs.Common.{◌≡◌, Bool, true, false, List, [], ◌∷◌, Option, Some, None, refl, arith}
 use Rattle.arp_cache.specs.declared.entry.Entry.{Entry}
-use Rattle.arp_cache.specs.Entries.{stalest, staler, candidate, goes_before}
+use Rattle.arp_cache.specs.Entries.{stalest, staler, candidate}
 
 at_unfixed : (x e : Entry) (o : Option Entry) (b : Bool) → x.fixed ≡ b → (o ≡ Some e → e.fixed ≡ false) → staler (candidate x) o ≡ Some e → e.fixed ≡ false
 at_unfixed x e o true f rest h = grind arith

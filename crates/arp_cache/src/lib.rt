@@ -16,6 +16,7 @@ mod reply;
 pub use cache::Cache;
 pub use entry::Entry;
 pub use laws::{
-    another_stations_packet_keeps_the_others, entered_entry_is_found, fixed_entries_stay, known_sender_has_what_was_heard,
+    another_stations_packet_keeps_the_others, entered_entry_is_found, fixed_entries_stay,
+    known_sender_has_what_was_heard,
 };
 pub use reply::reply_to;

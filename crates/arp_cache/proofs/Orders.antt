@@ -7,7 +7,7 @@ use Rattle.arp_cache.specs.Entries.{goes_before, staler, candidate, stalest}
 over : (a b c : Entry) → goes_before b a ≡ true → goes_before c b ≡ true → goes_before c a ≡ true
 over a b c h i = grind (arith, nat_tests)
 
-under : (a b c : Entry) → goes_before b a ≡ false → goes_before c b ≡ false → goes_before c a ≡ false
+pub under : (a b c : Entry) → goes_before b a ≡ false → goes_before c b ≡ false → goes_before c a ≡ false
 under a b c h i = grind (arith, nat_tests)
 
 -- by the three tests

@@ -1,9 +1,9 @@
 //! What holds of reception and of a full cache: each law is the contract of a function that does nothing.
-ghost use Rattle.std.specs.Prelude.{◌≡◌, ◌≢◌, ◌≤◌, ℕ, List, length, Option, Some, None, true, false};
+ghost use Rattle.std.specs.Prelude.{◌≡◌, ◌≢◌, ◌<◌, ◌≤◌, ℕ, List, length, get_or, Option, Some, None, true, false};
 ghost use Rattle.efi_base.specs.declared.plain.Tick.{Tick as Moment};
 ghost use Rattle.wire_link.specs.declared.resolution.Arp.{Arp as Packet};
 ghost use Rattle.arp_cache.specs.declared.entry.Entry.{Entry as Item};
-ghost use Rattle.arp_cache.specs.Entries.{mac_of, stalest};
+ghost use Rattle.arp_cache.specs.Entries.{mac_of, stalest, goes_before};
 ghost use Rattle.arp_cache.specs.Caches.{has, after_heard, entered, add_refusal};
 
 /// A sender that has an entry is known by the Ethernet address that was heard last, whatever the target.
@@ -25,4 +25,10 @@ pub fn fixed_entries_stay()
 /// An entry that a call isn't refused for what is there is found afterwards, also in a full cache.
 pub fn entered_entry_is_found()
     ensures { (es : List Item) (e : Item) → length es ≤ 256 → add_refusal es e.ip.0 true ≡ None → mac_of (entered es e) e.ip.0 ≡ Some e.mac }
+{}
+
+/// No entry that isn't fixed was refreshed longer ago than the one that goes first, or at the same tick with a lower address.
+pub fn none_goes_before_the_first()
+    ensures { (es : List Item) (e other : Item) (i : ℕ) → stalest es ≡ Some e → i < length es → (get_or es i other).fixed ≡ false
+        → goes_before (get_or es i other) e ≡ false }
 {}

@@ -17,6 +17,6 @@ pub use cache::Cache;
 pub use entry::Entry;
 pub use laws::{
     another_stations_packet_keeps_the_others, entered_entry_is_found, fixed_entries_stay,
-    known_sender_has_what_was_heard,
+    known_sender_has_what_was_heard, none_goes_before_the_first,
 };
 pub use reply::reply_to;

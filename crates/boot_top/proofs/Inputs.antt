@@ -18,9 +18,8 @@ use Rattle.efi_outside.specs.Intake.{TakesAtMost}
 use Rattle.efi_outside.specs.declared.intake.InputFault.{InputFault}
 use Rattle.boot_top.specs.Extract.{IsRefused}
 use Rattle.boot_top.specs.Watched.{IsWatched}
-use Rattle.boot_top.specs.Parties.{TakesExactly}
 use Rattle.boot_top.specs.declared.watching.Watched.{Watched}
-use Rattle.boot_top.specs.Streaming.{FeedsPiece, HasFed, HasWatched, HearsAll, IsStopped}
+use Rattle.boot_top.specs.Streaming.{HearsAll, IsStopped}
 use Rattle.boot_top.specs.declared.watching.Watching.{Watching}
 
 -- a fault that was told of these octets
@@ -56,50 +55,6 @@ all-given fed given ready w none = record {
   capture = w.capture;
   records_are = sym (append-nil given) ∙ ap (λ (r : List Record). given ++ r) (sym none) ∙ w.records_are;
 }
-
--- nothing was fed yet
-pub nothing-fed : (left : Option (List ℕ)) (most : ℕ) (w : Watching) → HasWatched most [] w → HasFed left left most w 0
-nothing-fed left most w h = record { fed = []; taken = Consumes-nil left; count = refl; watched = h }
-
--- and then a piece
-pub more-fed : (a b c : Option (List ℕ)) (most : ℕ) (v w : Watching) (count n : ℕ) → HasFed a b most v count → FeedsPiece b c v w n → HasFed a c most w (count + n)
-more-fed a b c most v w count n h p = record {
-  fed = h.fed ++ p.piece;
-  taken = Consumes-trans a b c h.fed p.piece h.taken p.taken;
-  count = length-append h.fed p.piece ∙ ap (λ x. x + length p.piece) h.count ∙ ap (λ x. count + x) p.count;
-  watched = p.fed most h.fed h.watched;
-}
-
--- what was fed is all that was left at first
-all-fed : (a b : Option (List ℕ)) (fed : List ℕ) (P : List ℕ → Type 0) → Consumes a b fed → IsAtEnd b → P fed → IfSome a P
-all-fed None b fed P c e p = tt
-all-fed (Some x) None fed P c e p = absurd c
-all-fed (Some x) (Some y) fed P c e p =
-    subst P (sym (c ∙ ap (λ l. fed ++ l) e ∙ append-nil fed)) p
-
--- no octets came, so what was fed is all
-piece-none : (piece : List ℕ) → length piece ≡ 0 → piece ≡ []
-piece-none [] e = refl
-piece-none (b ∷ piece) e = absurd (cc)
-
--- what holds of all that was fed then holds of the input
-pub at-end : (a b c : Option (List ℕ)) (most : ℕ) (v w : Watching) (count n : ℕ) (P : List ℕ → Type 0) → HasFed a b most v count → FeedsPiece b c v w n → n ≡ 0
-    → ((fed : List ℕ) → HasWatched most fed w → P fed) → IfSome a P
-at-end a b c most v w count n P h p none says =
-    let f = more-fed a b c most v w count n h p in
-    all-fed a c f.fed P f.taken (p.end none) (says f.fed f.watched)
-
--- so many octets came
-pub came : (a b : Option (List ℕ)) (most : ℕ) (w : Watching) (count n : ℕ) → HasFed a b most w count → count ≡ n → TakesExactly a b n
-came a b most w count n h is = (h.fed, h.taken, h.count ∙ is)
-
--- no more came where the source failed
-pub came-before : (a b c : Option (List ℕ)) (most : ℕ) (w : Watching) (count limit : ℕ) → HasFed a b most w count → Keeps b c → count ≤ limit → TakesAtMost a c limit
-came-before None b c most w count limit h keeps few = (h.fed, tt, omega (arith, h.count, few))
-came-before (Some x) None c most w count limit h keeps few = absurd h.taken
-came-before (Some x) (Some y) None most w count limit h keeps few = absurd keeps
-came-before (Some x) (Some y) (Some z) most w count limit h keeps few =
-    (h.fed, h.taken ∙ ap (λ l. h.fed ++ l) (sym keeps), omega (arith, h.count, few))
 
 -- a reader that told no fault, and of which all was heard
 pub heard-whole : (most : ℕ) (fed : List ℕ) (reader : Reading) (tap : Tap) (seen : Seen) → HearsAll most fed reader tap ⊎ IsStopped fed reader → reader.fault ≡ None
@@ -148,25 +103,3 @@ fed-stopped most fed piece old new tap e n (inl h) is stops stays =
     inr (record { given = h.given; place = n; stopped = subst (HasStopped (fed ++ piece) h.given new) is (stops fed h.given h.read) })
 fed-stopped most fed piece old new tap e n (inr s) is stops stays =
     inr (record { given = s.given; place = s.place; stopped = stays fed s.given (BadAt s.place) s.stopped })
-
--- at the source's end all that was fed is the input
-pub whole-at-end : (a b c : Option (List ℕ)) (most : ℕ) (v w : Watching) (count n : ℕ) (result : Result Watched InputFault) → HasFed a b most v count → FeedsPiece b c v w n → n ≡ 0
-    → ((most : ℕ) (fed : List ℕ) → HasWatched most fed w → IfOk result (IsWatched most fed)) → IfOk result (λ watched. IfSome a (λ octets. IsWatched most octets watched))
-whole-at-end a b c most v w count n (Err e) h p none says = tt
-whole-at-end a b c most v w count n (Ok watched) h p none says =
-    at-end a b c most v w count n (λ octets. IsWatched most octets watched) h p none (λ fed x. says most fed x)
-
--- and no longer than what was counted
-pub bound-at-end : (a b c : Option (List ℕ)) (most : ℕ) (v w : Watching) (count n limit : ℕ) (result : Result Watched InputFault) → HasFed a b most v count → FeedsPiece b c v w n → n ≡ 0
-    → count ≤ limit → OnOk result (IfSome a (λ octets. length octets ≤ limit))
-bound-at-end a b c most v w count n limit (Err e) h p none few = tt
-bound-at-end a b c most v w count n limit (Ok watched) h p none few =
-    let f = more-fed a b c most v w count n h p in
-    all-fed a c f.fed (λ octets. length octets ≤ limit) f.taken (p.end none) (omega (arith, f.count, none, few))
-
--- what was taken in all
-pub taken-at-end : (a b c : Option (List ℕ)) (most : ℕ) (v w : Watching) (count n limit : ℕ) → HasFed a b most v count → FeedsPiece b c v w n → n ≡ 0
-    → count ≤ limit → TakesAtMost a c limit
-taken-at-end a b c most v w count n limit h p none few =
-    let f = more-fed a b c most v w count n h p in
-    (f.fed, f.taken, omega (arith, f.count, none, few))

@@ -14,7 +14,7 @@ use Rattle.efi_base.specs.declared.load_end.LoadEnd.{LoadEnd}
 use Rattle.efi_base.specs.declared.load_end.LoadEnd.TheVariants.{Success}
 use Rattle.tap_core.specs.Shows.{Telling, Shows}
 use Rattle.boot_top.specs.Reports.{report_of}
-use Rattle.boot_top.specs.Running.{Command}
+use Rattle.boot_top.specs.Running.{Command, reading}
 
 -- the octets are a capture that shows this, with a buffer of so many octets
 pub record Extracts (most : ℕ) (bytes : List ℕ) (t : Telling) : Type 0 where
@@ -88,10 +88,4 @@ is_image Image = true
 is_image Report = false
 
 abbrev pub extracting : ExtractTask → Command
-extracting task = record {
-  reads = true;
-  captures = false;
-  is_silent = is_image task.emit;
-  IsRight = IsExtracted task;
-  Decides = DecidesExtract task;
-}
+extracting task = reading (is_image task.emit) (IsExtracted task) (DecidesExtract task)

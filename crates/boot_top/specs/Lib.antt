@@ -6,7 +6,9 @@ pub mod Running
 pub mod Parties
 -- the command `extract`
 pub mod Extract
--- its report
+-- commands whose text is read and checked, and no more
+pub mod Texts
+-- the report of `extract`
 pub mod Reports
 -- a capture on whose connection the peer speaks one stream
 pub mod HonestPeers

@@ -1,6 +1,6 @@
 -- The parties to a call: what gives octets and what takes them, before the call and after it.
-use Rattle.std.specs.Prelude.{◌≡◌, ℕ, Option, List, length}
-use Rattle.std.specs.Io.KnownBytes.{Appends, Consumes}
+use Rattle.std.specs.Prelude.{◌≡◌, ℕ, Option, List}
+use Rattle.std.specs.Io.KnownBytes.{Appends}
 use Rattle.efi_outside.specs.Causes.{AppendsFront}
 
 -- an object before a call and after it, the octets that it tells (those that it has left, or those that it holds), and how
@@ -21,7 +21,3 @@ Takes p text = Appends (p.octets p.old) (p.octets p.new) text
 -- some front of them came
 abbrev pub TakesFront : {T : Type 0} → Party T → List ℕ → Type 0
 TakesFront p text = AppendsFront (p.octets p.old) (p.octets p.new) text
-
--- so many octets were taken from those that were left
-abbrev pub TakesExactly : Option (List ℕ) → Option (List ℕ) → ℕ → Type 0
-TakesExactly old new n = (front : List ℕ) × Consumes old new front × (length front ≡ n)

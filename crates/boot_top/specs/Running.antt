@@ -3,7 +3,8 @@ use Rattle.std.specs.Prelude.{◌≡◌, ◌≢◌, ◌⊎◌, ◌+◌, ◌<◌,
 use Rattle.std.specs.Io.KnownBytes.{IsAtEnd}
 use Rattle.efi_outside.specs.Causes.{Rose}
 use Rattle.efi_outside.specs.Intake.{TakesAtMost, input_limit}
-use Rattle.boot_top.specs.Parties.{Party, IsUntouched, Takes, TakesExactly, TakesFront}
+use Rattle.efi_feed.specs.Pieces.{TakesExactly}
+use Rattle.boot_top.specs.Parties.{Party, IsUntouched, Takes, TakesFront}
 
 -- what a command means
 pub record Command : Type 1 where
@@ -18,14 +19,18 @@ pub record Command : Type 1 where
   -- the input alone decides this status
   pub Decides : List ℕ → ℕ → Type 0
 
+-- a command that reads its input and writes no capture
+abbrev pub reading : Bool → (List ℕ → ℕ → List ℕ → List ℕ → Type 0) → (List ℕ → ℕ → Type 0) → Command
+reading silent IsRight Decides = record { reads = true; captures = false; is_silent = silent; IsRight = IsRight; Decides = Decides }
+
 -- what holds of the input of a command, where the source tells it; of a command that reads none, it is empty
 abbrev pub OnInput : Bool → Option (List ℕ) → (List ℕ → Type 0) → Type 0
 OnInput true left P = IfSome left P
 OnInput false left P = P []
 
--- the command came to its end, and this status says how
+-- the command came to its end, and this status says how; 8 is that of an input that is right, of a command that isn't built
 abbrev pub IsVerdict : ℕ → Type 0
-IsVerdict status = (status ≡ 0) ⊎ (status ≡ 1) ⊎ (status ≡ 3)
+IsVerdict status = (status ≡ 0) ⊎ (status ≡ 1) ⊎ (status ≡ 3) ⊎ (status ≡ 8)
 
 -- the status says nothing of the input: the source or a sink failed, memory ran out, or the input is too long
 abbrev pub IsNoVerdict : ℕ → Type 0
@@ -49,7 +54,7 @@ pub record WritesFront {K P : Type 0} (command : Command) (out : Party K) (cap :
 
 -- the input is read to its end before anything is written, and no further than an octet past the limit
 pub record ReadsAll {S K P : Type 0} (src : Party S) (out : Party K) (cap : Party P) (status : ℕ) : Type 0 where
-  pub whole : (status ≡ 0) ⊎ (status ≡ 1) ⊎ (status ≡ 3) ⊎ (status ≡ 5) → IsAtEnd (src.octets src.new)
+  pub whole : IsVerdict status ⊎ (status ≡ 5) → IsAtEnd (src.octets src.new)
   pub first : (out.new ≢ out.old) ⊎ (cap.new ≢ cap.old) → IsAtEnd (src.octets src.new)
   pub taken : TakesAtMost (src.octets src.old) (src.octets src.new) (input_limit + 1)
   pub too_long : status ≡ 7 → TakesExactly (src.octets src.old) (src.octets src.new) (input_limit + 1)

@@ -1,11 +1,17 @@
--- How far an input was read as a capture, and what a tap heard of it.
-use Rattle.std.specs.Prelude.{◌≡◌, ◌⊎◌, ℕ, Option, List, [], ◌++◌, length}
-use Rattle.std.specs.Io.KnownBytes.{Consumes, IsAtEnd}
+-- How far an input was read as a capture, and what a tap heard of it; how far one was read as a text.
+use Rattle.std.specs.Prelude.{◌≡◌, ◌⊎◌, ℕ, List, []}
 use Rattle.efi_base.specs.declared.plain.Record.{Record}
 use Rattle.wire_pcap.specs.Reading.{Reading, HasRead, HasStopped}
 use Rattle.wire_pcap.specs.declared.fault.CapFault.TheVariants.{BadAt}
+use Rattle.session_text.specs.Reading.{HasRead as HasReadDocument}
+use Rattle.session_text.specs.Sessions.{session_of}
+use Rattle.script_text.specs.Reading.{HasRead as HasReadScript}
+use Rattle.script_text.specs.Scripts.{script_of}
 use Rattle.tap_core.specs.declared.tapping.Tap.{Tap}
 use Rattle.tap_core.specs.Tapping.{HasHeard}
+use Rattle.boot_top.specs.Texts.{IsRefusedAlready}
+use Rattle.boot_top.specs.declared.document.DocumentCheck.{DocumentCheck}
+use Rattle.boot_top.specs.declared.script.ScriptCheck.{ScriptCheck}
 use Rattle.boot_top.specs.declared.watching.Watching.{Watching}
 
 -- the reader was fed these octets, and the tap heard all records that are in them
@@ -24,17 +30,9 @@ pub record IsStopped (fed : List ℕ) (reader : Reading) : Type 0 where
 abbrev pub HasWatched : ℕ → List ℕ → Watching → Type 0
 HasWatched most fed w = HearsAll most fed w.reader w.tap ⊎ IsStopped fed w.reader
 
--- n octets went from what was left to what was fed, none only at the end
-pub record FeedsPiece (old new : Option (List ℕ)) (before now : Watching) (n : ℕ) : Type 0 where
-  pub piece : List ℕ
-  pub taken : Consumes old new piece
-  pub count : length piece ≡ n
-  pub end : n ≡ 0 → IsAtEnd new
-  pub fed : (most : ℕ) (fed : List ℕ) → HasWatched most fed before → HasWatched most (fed ++ piece) now
+-- these octets were fed, and read as far as they go on to a document, or to a script
+abbrev pub HasCheckedSession : List ℕ → DocumentCheck → Type 0
+HasCheckedSession fed check = HasReadDocument fed check.reader ⊎ IsRefusedAlready session_of fed check.reader.fault
 
--- what was read so far: octets that went from what was left, so many of them
-pub record HasFed (old new : Option (List ℕ)) (most : ℕ) (w : Watching) (n : ℕ) : Type 0 where
-  pub fed : List ℕ
-  pub taken : Consumes old new fed
-  pub count : length fed ≡ n
-  pub watched : HasWatched most fed w
+abbrev pub HasCheckedScript : List ℕ → ScriptCheck → Type 0
+HasCheckedScript fed check = HasReadScript fed check.reader ⊎ IsRefusedAlready script_of fed check.reader.fault

@@ -9,22 +9,21 @@ ghost use Rattle.tap_core.specs.Shown.{Tells};
 ghost use Rattle.tap_core.specs.Shows.{Telling, Shows};
 ghost use Rattle.tap_core.specs.Watching.{IsSeen};
 ghost use Rattle.wire_pcap.specs.Reading.{IsWhole};
-ghost use Rattle.boot_top.specs.Extract.{EndedOtherwise, IsRefusal, Succeeded, bad_input_text, is_success};
-ghost use Rattle.boot_top.specs.Parties.{TakesExactly};
+ghost use Rattle.boot_top.specs.Extract.{EndedOtherwise, IsRefusal, Succeeded, is_success};
+ghost use Rattle.efi_feed.specs.Pieces.{TakesExactly};
 ghost use Rattle.boot_top.specs.Watched.{HasNoReport, IsAnswered, IsAnswerText, IsWatched};
 ghost use Rattle.boot_words.specs.declared.task.Emit.TheVariants as emit;
 
 use crate::capture::watch_source;
 use crate::report::report_of;
-use crate::status::{
-    BAD_INPUT, ENDED_OTHERWISE, NO_MEMORY, SINK_FAILED, SOURCE_FAILED, SUCCESS, TOO_LONG,
-};
+use crate::status::{BAD_INPUT, ENDED_OTHERWISE, NO_MEMORY, SOURCE_FAILED, SUCCESS, TOO_LONG};
 use crate::watching::Watched;
+use crate::writing::{bad_input_line, write_text};
 use boot_words::{Emit, ExtractTask};
 use doc_text::report_text;
 use efi_base::{LoadEnd, NoMemory};
-use efi_outside::{InputFault, Miss, Sink, Source, write_all};
-use std::alloc::{AllocError, Global};
+use efi_outside::{InputFault, Sink, Source};
+use std::alloc::Global;
 use tap_core::{Seen, Shown};
 
 /// What is answered to an input.
@@ -82,21 +81,6 @@ pub fn extract<S: Source, K: Sink>(alloc: Global, task: ExtractTask, src: &mut S
         Ok(Answer::Otherwise(text)) => write_otherwise(out, &text),
         Ok(Answer::Refused(line)) => write_text(out, &line, BAD_INPUT),
         Err(NoMemory) => NO_MEMORY,
-    }
-}
-
-/// Writes a text. The answer is this status where all of it was written.
-fn write_text<K: Sink>(out: &mut K, text: &[u8], status: u8) -> u8
-    ensures cases { (result ≡ 5) ⊎ (result ≡ 6) ⊎ ((result ≡ status) × Appends (K.held out.old) (K.held out.new) text.now
-        × (K.faults out.new ≡ K.faults out.old)) }
-    ensures front { AppendsFront (K.held out.old) (K.held out.new) text.now }
-    ensures sink { (result ≡ 5) → (status ≢ 5) → Rose (K.faults out.old) (K.faults out.new) }
-    ensures sink_count { K.faults out.new ≢ K.faults out.old → result ≡ 5 }
-{
-    match write_all(out, text) {
-        Ok(()) => status,
-        Err(Miss::Failed) => SINK_FAILED,
-        Err(Miss::OutOfResources) => NO_MEMORY,
     }
 }
 
@@ -173,13 +157,4 @@ fn is_success(end: LoadEnd) -> bool
         LoadEnd::Success(_) => true,
         _ => false,
     }
-}
-
-/// The line that tells where an input is bad.
-fn bad_input_line(alloc: Global, place: u64) -> Result<Vec<u8>, AllocError>
-    ensures { IfOk result (λ line. line.items ≡ bad_input_text place) }
-{
-    let mut text = String::from_str(alloc, "bad input at ")?;
-    write!(text, "{place}\n")?;
-    Ok(text.into_bytes())
 }

@@ -20,14 +20,16 @@ const FIRST: &str = "\
 /// and what is written.
 type Row = (&'static str, usize, u64, u64, u8, &'static str);
 
-const ROWS: [Row; 7] = [
+const ROWS: [Row; 9] = [
     ("extract", 273, 0, 0, SUCCESS, "A"),
     ("extract", 164, 0, 0, ENDED_OTHERWISE, ""),
     ("extrac", 273, 0, 0, BAD_WORDS, ""),
     ("extract", 272, 0, 0, BAD_INPUT, "bad input at 164\n"),
     ("extract", 273, 1, 0, SOURCE_FAILED, ""),
     ("extract", 273, 0, 1, SINK_FAILED, ""),
-    ("script", 273, 0, 0, NOT_BUILT, ""),
+    ("script", 273, 0, 0, BAD_INPUT, "bad input at 0\n"),
+    ("boot", 273, 0, 0, BAD_INPUT, "bad input at 0\n"),
+    ("replay", 273, 0, 0, NOT_BUILT, ""),
 ];
 
 fn digit(code: u8) -> u8 {

@@ -7,6 +7,7 @@ ghost use Rattle.boot_top.specs.Watched.{IsWatched};
 ghost use Rattle.boot_top.specs.Streaming.{HasWatched, HearsAll};
 
 use efi_base::NoMemory;
+use efi_feed::Feed;
 use std::alloc::Global;
 use tap_core::{Seen, Tap};
 use wire_pcap::{CapFault, PcapReader};
@@ -39,11 +40,20 @@ impl Watching {
             Err(e) => Err(e),
         }
     }
+}
 
-    /// Reads on in the next octets. Those behind the place at which the input is no capture aren't looked at.
-    pub fn feed(&mut self, piece: &[u8]) -> Result<(), NoMemory>
-        ensures { (most : ℕ) (fed : List ℕ) → HasWatched most fed self.old → OnOk result (HasWatched most (fed ++ piece.now) self.new) }
-    {
+impl Feed for Watching {
+    // The buffer has so many octets.
+    type About = u32;
+
+    type Whole = Watched;
+
+    ghost has_fed = { HasWatched };
+
+    ghost is_whole = { IsWatched };
+
+    // Octets behind the place at which the input is no capture aren't looked at.
+    fn feed(&mut self, piece: &[u8]) -> Result<(), NoMemory> {
         match self.reader.feed(piece) {
             Ok(()) => hear_ready(&mut self.reader, &mut self.tap),
             Err(CapFault::BadAt(_)) => Ok(()),
@@ -51,10 +61,7 @@ impl Watching {
         }
     }
 
-    /// What came of all that was fed.
-    pub fn finish(self) -> Result<Watched, NoMemory>
-        ensures { (most : ℕ) (fed : List ℕ) → HasWatched most fed self → IfOk result (IsWatched most fed) }
-    {
+    fn finish(self) -> Result<Watched, NoMemory> {
         let Watching { reader, tap } = self;
         match reader.finish() {
             Ok(()) => Ok(Watched::Capture(tap.finish())),

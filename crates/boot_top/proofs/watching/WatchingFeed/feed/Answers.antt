@@ -1,6 +1,6 @@
 -- What was fed, with a piece more.
 use Rattle.boot_top.proofs.Inputs.{fed-on, fed-stopped}
-use Rattle.boot_top.proofs.watching.Watching.feed.Goals as goal
+use Rattle.boot_top.proofs.watching.WatchingFeed.feed.Goals as goal
 
 pub returns-in-Ok : goal.returns-in-Ok
 returns-in-Ok c most fed watched =

@@ -1,6 +1,6 @@
 -- What came of all that was fed.
 use Rattle.boot_top.proofs.Inputs.{heard-whole, heard-refused, fault-one}
-use Rattle.boot_top.proofs.watching.Watching.finish.Goals as goal
+use Rattle.boot_top.proofs.watching.WatchingFeed.finish.Goals as goal
 
 pub returns-in-Ok : goal.returns-in-Ok
 returns-in-Ok c most fed watched =

@@ -43,10 +43,6 @@ of-verdict status E is bad good (inr (inl e)) = absurd (no-less status 1 is e (s
 of-verdict status E is bad good (inr (inr (inl e))) = bad e
 of-verdict status E is bad good (inr (inr (inr e))) = good e
 
-nothing-more : (status : ℕ) (E : Type 0) → ((status ≡ 4) ⊎ (status ≡ 7) ⊎ (status ≡ 8) → E) → (status ≡ 4) ⊎ (status ≡ 7) → E
-nothing-more status E nothing (inl e) = nothing (inl e)
-nothing-more status E nothing (inr e) = nothing (inr (inl e))
-
 at-its-end : (status : ℕ) (E : Type 0) → IsTextStatus status → ((status ≡ 3) ⊎ (status ≡ 5) ⊎ (status ≡ 8) → E) → IsVerdict status ⊎ (status ≡ 5) → E
 at-its-end status E is whole (inl v) = of-verdict status E is (λ three. whole (inl three)) (λ eight. whole (inr (inr eight))) v
 at-its-end status E is whole (inr five) = whole (inr (inl five))
@@ -133,7 +129,7 @@ module _ {T : Type 0} where
       (wrote-text reads out cap status (src.octets src.old) same is good bad (λ eight. nothing (inr (inr eight))))
       (decided-text reads (src.octets src.old) status (Takes out) is good bad)
       (λ stopped. on-some (src.octets src.old) _ _ (λ input f. wrote-text-front reads out cap input same f) (front stopped))
-      (λ stopped. nothing-more status (IsUntouched out) nothing stopped)
+      nothing
       (λ quiet one. absurd (no-less status 1 is one (search rules)))
       (λ came. at-its-end status E is whole came)
       first taken too_long failed long source sink source_count sink_count

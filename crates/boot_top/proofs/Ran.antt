@@ -89,6 +89,12 @@ ended status E is whole (inl (inr (inr (inl three)))) = whole (inr (inr (inl thr
 ended status E is whole (inl (inr (inr (inr eight)))) = absurd (no-eight status is eight)
 ended status E is whole (inr five) = whole (inr (inr (inr five)))
 
+-- nothing is written with 8, since it isn't answered
+nothing-else : (status : ℕ) (N : Type 0) → IsStatus status → ((status ≡ 4) ⊎ (status ≡ 7) → N) → (status ≡ 4) ⊎ (status ≡ 7) ⊎ (status ≡ 8) → N
+nothing-else status N is nothing (inl four) = nothing (inl four)
+nothing-else status N is nothing (inr (inl seven)) = nothing (inr seven)
+nothing-else status N is nothing (inr (inr eight)) = absurd (no-eight status is eight)
+
 wrote-front : {K P : Type 0} (t : ExtractTask) (out : Party K) (cap : Party P) (input : List ℕ) → IsUntouched cap
     → (IsUntouched out ⊎ ((text : List ℕ) × IsAnswerText t input text × TakesFront out text))
     → (IsUntouched out × IsUntouched cap) ⊎ WritesFront (extracting t) out cap input
@@ -136,7 +142,7 @@ pub reading-runs : {S K P : Type 0} (quiet : Bool) (Right : List ℕ → ℕ →
     → (IsVerdict status → IfSome (src.octets src.old) (Writes (reading quiet Right Due) out cap status))
     → IfSome (src.octets src.old) (λ input. (due : ℕ) → Due input due → (status ≡ due) ⊎ IsNoVerdict status)
     → ((status ≡ 5) ⊎ (status ≡ 6) → IfSome (src.octets src.old) (λ input. (IsUntouched out × IsUntouched cap) ⊎ WritesFront (reading quiet Right Due) out cap input))
-    → ((status ≡ 4) ⊎ (status ≡ 7) → IsUntouched out)
+    → ((status ≡ 4) ⊎ (status ≡ 7) ⊎ (status ≡ 8) → IsUntouched out)
     → (quiet ≡ true → status ≡ 1 → IsUntouched out)
     → (IsVerdict status ⊎ (status ≡ 5) → IsAtEnd (src.octets src.new))
     → (out.new ≢ out.old → IsAtEnd (src.octets src.new))
@@ -197,7 +203,7 @@ extract-runs t src out cap status same is success otherwise refused front nothin
     (wrote t out cap status (src.octets src.old) is same success otherwise refused)
     (decided-of (src.octets src.old) t status (Takes out) is success otherwise refused)
     (λ stopped. on-some (src.octets src.old) _ _ (λ input f. wrote-front t out cap input same f) (front stopped))
-    nothing (λ image one. no_image one (image-of t.emit image)) (ended status (IsAtEnd (src.octets src.new)) is whole)
+    (nothing-else status (IsUntouched out) is nothing) (λ image one. no_image one (image-of t.emit image)) (ended status (IsAtEnd (src.octets src.new)) is whole)
     first taken too_long failed long source sink source_count sink_count
 
 -- words ask for one extraction

@@ -81,7 +81,7 @@ pub record Runs {S K P : Type 0} (command : Command) (src : Party S) (out : Part
       → (status ≡ due) ⊎ IsNoVerdict status)
   pub front : (status ≡ 5) ⊎ (status ≡ 6) → OnInput command.reads (src.octets src.old) (λ input.
       (IsUntouched out × IsUntouched cap) ⊎ WritesFront command out cap input)
-  pub nothing : (status ≡ 4) ⊎ (status ≡ 7) → IsUntouched out × IsUntouched cap
+  pub nothing : (status ≡ 4) ⊎ (status ≡ 7) ⊎ (status ≡ 8) → IsUntouched out × IsUntouched cap
   pub silent : command.is_silent ≡ true → status ≡ 1 → IsUntouched out
   pub no_capture : command.captures ≡ false → IsUntouched cap
   pub reads : Reads command.reads src out cap status

@@ -24,5 +24,5 @@ pub const NO_MEMORY: u8 = 6;
 /// The input is longer than 2,147,483,648 octets; nothing was written.
 pub const TOO_LONG: u8 = 7;
 
-/// The command isn't built yet; nothing was read or written.
+/// The command isn't built yet; nothing was written. Where it has an input of its own text, that was read and is right.
 pub const NOT_BUILT: u8 = 8;

@@ -9,7 +9,7 @@ use session_text::number_in;
 /// A child.
 #[derive(Clone, Copy, PartialEq, Eq, Debug)]
 pub enum Handle {
-    /// That of the create line of this number, counted from 1.
+    /// The one that was given as this number, counted from 1. A `create` that is refused gives none, so the lines only bound it.
     Created(u64),
     /// The connection that this accept token gave.
     Accepted(TokenId),

@@ -195,7 +195,8 @@ impl Snp {
     /// Hands the frame in front to the link, once. Where the link has no memory for it, it stays in front. The call
     /// itself takes none.
     pub fn flush_one<L: Link>(&mut self, link: &mut L) -> Result<Option<Sent>, NoMemory>
-        ensures { Flushes self.old self.new (L.wire link.old) (L.wire link.new) result }
+        ensures flushes { Flushes self.old self.new (L.wire link.old) (L.wire link.new) result }
+        ensures made { L.made link.new ≡ L.made link.old }
     {
         let Some(q) = self.queue.front() else {
             return Ok(None);
@@ -237,6 +238,7 @@ fn refusal_of(state: State, octets: usize, waiting: usize) -> Option<Refuse>
 fn send<L: Link>(link: &mut L, frame: &[u8]) -> Result<bool, NoMemory>
     ensures ok { IfOk result (λ ok. Sends (L.wire link.old) (L.wire link.new) frame.now (answer_of ok)) }
     ensures err { OnErr result (L.wire link.new ≡ L.wire link.old) }
+    ensures made { L.made link.new ≡ L.made link.old }
 {
     match link.send(frame) {
         Ok(()) => Ok(true),

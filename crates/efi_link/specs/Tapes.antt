@@ -12,6 +12,14 @@ pub record Tape : Type 0 where
   pub given : ℕ
   pub failing : List ℕ
 
+-- what a link in memory is made with
+pub record Plan : Type 0 where
+  pub frames : List (List ℕ)
+  pub failing : List ℕ
+
+abbrev pub plan_of : Tape → Plan
+plan_of t = record { frames = t.frames; failing = t.failing }
+
 -- what Ethernet can carry without its check sequence
 pub record IsFrame (frame : List ℕ) : Type 0 where
   pub some : 1 ≤ length frame

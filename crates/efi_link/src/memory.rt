@@ -1,6 +1,6 @@
 //! Links in memory: of one form some sends are to fail, and the other never fails.
 ghost use Rattle.std.specs.Prelude.{◌≡◌, ◌≢◌, ◌↔◌, ◌<◌, ◌≤◌, [], ◌∷◌, ◌++◌, length, All, IsTrue, IsOk, IsErrOf};
-ghost use Rattle.efi_link.specs.Tapes.{FailsNext, IsFrame, wire_of};
+ghost use Rattle.efi_link.specs.Tapes.{FailsNext, IsFrame, Plan, plan_of, wire_of};
 ghost use Rattle.efi_link.specs.Wires.{Receives, Sends, with_faults};
 
 use crate::link::Link;
@@ -64,8 +64,13 @@ impl MemLink {
 impl Link for MemLink {
     ghost wire = { λ s. wire_of s };
 
+    ghost Made = { Plan };
+
+    ghost made = { plan_of };
+
     fn send(&mut self, frame: &[u8]) -> Result<(), Miss>
         ensures sends { Sends (wire_of self.old) (wire_of self.new) frame.now result }
+        ensures made { plan_of self.new ≡ plan_of self.old }
 
         // It fails exactly where it is to fail, unless the try found no memory.
         ensures fails { IsErrOf result Miss.Failed → FailsNext self.old }
@@ -81,6 +86,7 @@ impl Link for MemLink {
     fn recv(&mut self, room: &mut [u8]) -> Result<usize, Failed>
         requires room { 1514 ≤ length room.old }
         ensures receives { Receives (wire_of self.old) (wire_of self.new) room.new result }
+        ensures made { plan_of self.new ≡ plan_of self.old }
         ensures never_fails { IsOk result }
     {
         if self.given == self.frames.len() {
@@ -137,8 +143,13 @@ impl SureLink {
 impl Link for SureLink {
     ghost wire = { λ s. with_faults (wire_of s) 0 };
 
+    ghost Made = { Plan };
+
+    ghost made = { plan_of };
+
     fn send(&mut self, frame: &[u8]) -> Result<(), Miss>
         ensures sends { Sends (with_faults (wire_of self.old) 0) (with_faults (wire_of self.new) 0) frame.now result }
+        ensures made { plan_of self.new ≡ plan_of self.old }
         ensures never_fails { result ≢ Err Miss.Failed }
     {
         let Ok(()) = put_try(self.alloc, &mut self.tries, frame, true) else {
@@ -150,6 +161,7 @@ impl Link for SureLink {
     fn recv(&mut self, room: &mut [u8]) -> Result<usize, Failed>
         requires room { 1514 ≤ length room.old }
         ensures receives { Receives (with_faults (wire_of self.old) 0) (with_faults (wire_of self.new) 0) room.new result }
+        ensures made { plan_of self.new ≡ plan_of self.old }
         ensures never_fails { IsOk result }
     {
         if self.given == self.frames.len() {

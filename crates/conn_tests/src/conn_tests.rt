@@ -397,6 +397,27 @@ fn an_answering_side_does_as_told(rt: HostRuntime) {
 }
 
 #[test]
+fn a_reset_follows_the_fin_of_its_event(rt: HostRuntime) {
+    // the peer has closed; this side closes and gives up in one event
+    established(
+        &rt,
+        rt.alloc(),
+        &[
+            (20, Hear((5_001, 1_001, FIN | ACK, 8_000, 0))),
+            (20, Goes(&[(1_001, 5_002, ACK, 65_535, 0)])),
+            (20, Is(ConnState::CloseWait)),
+            (30, Close),
+            (30, Aborts),
+            (
+                30,
+                Goes(&[(1_001, 5_002, FIN | ACK, 65_535, 0), (1_002, 0, RST, 0, 0)]),
+            ),
+            (30, Is(ConnState::Closed(ConnEnd::Aborted))),
+        ],
+    );
+}
+
+#[test]
 fn sizes_and_windows_are_the_agreed_ones(rt: HostRuntime) {
     // the peer's MSS, the octets of the first segment, and the number of the second one
     for (mss, first, second) in [

@@ -95,7 +95,7 @@ stream_out c = option_map (cut_out c) (cut_now c.sender c.at)
 abbrev pub after_stream : Connection → Connection
 after_stream c =
     let s = after_now c.sender c.at in
-    record c { sender = s; state = sent_state c.state (has_given_up s) s.fin_sent }
+    record c { sender = s; state = sent_state c.state (has_given_up s) s.fin_sent c.aborted }
 
 abbrev pub due_in : ConnState → Connection → Option SegOut
 due_in SynSent c = opening_out c

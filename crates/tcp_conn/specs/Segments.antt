@@ -74,16 +74,16 @@ established_by c s = record c {
   sender = after_begin c.sender c.at s.seq (scaled c.scale s.window) c.limit;
 }
 
--- a SYN in the window ends a connection that was made by listening, and the SYN that made it is answered again
+-- a SYN in the window ends a connection that was made by listening, and the SYN that made it is acknowledged again
 abbrev pub after_syn_again : Connection → Segment → Connection
 after_syn_again c s = if is_in_window c.receiver s.seq then ended_by Reset c else owing_ack c
 
--- SYN-RECEIVED (section 3.10.7.4)
+-- SYN-RECEIVED (section 3.10.7.4); what an unacceptable segment brings counts by its place alone
 unfoldable pub in_syn_received : Connection → Segment → Connection
 in_syn_received c s =
     if has_rst s then after_reset c s
     else if has_syn s then after_syn_again c s
-    else if not (is_acceptable c.receiver s) then owing_ack c
+    else if not (is_acceptable c.receiver s) then owing_ack (if acks_syn c.sender.iss s then after_text c s else c)
     else if not (has_ack s) then c
     else if not (acks_syn c.sender.iss s) then owing_reset s.ack c
     else moved (has_fin s) (after_text (established_by c s) s)

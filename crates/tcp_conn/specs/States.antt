@@ -25,11 +25,12 @@ abbrev pub closed_state : ConnState → ConnState
 closed_state Established = FinWait1
 closed_state other = other
 
--- once it is known whether this side gave up, and whether its FIN was sent
-abbrev pub sent_state : ConnState → Bool → Bool → ConnState
-sent_state other true fin = Closed SendTimeout
-sent_state CloseWait false true = LastAck
-sent_state other false fin = other
+-- once it is known whether the peer was silent for too long, whether this side's FIN was sent, and whether the user has given
+-- the connection up
+abbrev pub sent_state : ConnState → Bool → Bool → Bool → ConnState
+sent_state other true fin aborted = Closed SendTimeout
+sent_state CloseWait false true false = LastAck
+sent_state other false fin aborted = other
 
 -- whether the ticks of TIME-WAIT count anew: it begins, or a FIN is heard again
 abbrev pub restarts_wait : ConnState → ConnState → Bool → Bool

@@ -311,6 +311,9 @@ impl Conn {
             return self.in_syn_received_syn(s);
         }
         if !is_acceptable(&self.recv, s) {
+            if acks_syn(self.iss, s) {
+                self.hear_text(s);
+            }
             self.ack_owed = true;
             return;
         }
@@ -458,7 +461,7 @@ impl Conn {
         let cut = self.send.next_segment(self.at);
         self.state = self
             .state
-            .after_sending(self.send.given_up(), self.send.fin_sent());
+            .after_sending(self.send.given_up(), self.send.fin_sent(), self.aborted);
         match cut {
             Some(cut) => Some(self.cut_out(cut)),
             None => None,

@@ -74,14 +74,15 @@ impl ConnState {
         }
     }
 
-    /// The state once it is known whether this side gave up, and whether its FIN was sent.
-    pub(crate) fn after_sending(self, given_up: bool, fin_sent: bool) -> ConnState
-        ensures { result ≡ sent_state self given_up fin_sent }
+    /// The state once it is known whether the peer was silent for too long, whether this side's FIN was sent, and whether
+    /// the user has given the connection up.
+    pub(crate) fn after_sending(self, silent: bool, fin_sent: bool, aborted: bool) -> ConnState
+        ensures { result ≡ sent_state self silent fin_sent aborted }
     {
-        match (self, given_up, fin_sent) {
-            (_, true, _) => ConnState::Closed(ConnEnd::SendTimeout),
-            (ConnState::CloseWait, false, true) => ConnState::LastAck,
-            (state, false, _) => state,
+        match (self, silent, fin_sent, aborted) {
+            (_, true, _, _) => ConnState::Closed(ConnEnd::SendTimeout),
+            (ConnState::CloseWait, false, true, false) => ConnState::LastAck,
+            (state, false, _, _) => state,
         }
     }
 

@@ -65,6 +65,21 @@ impl<T: Drop> Book<T> {
         }
     }
 
+    /// Why `accept` would refuse, but for want of memory: a driver that takes memory of its own for a token asks before.
+    pub fn refusal(&self, child: ChildId, owner: Owner) -> Option<Refuse>
+        ensures { result ≡ accept_refusal self.now child owner }
+    {
+        if let Owner::User(_) = owner
+            && is_full(&self.pending, child)
+        {
+            return Some(Refuse::NotReady);
+        }
+        if self.next == u64::MAX {
+            return Some(Refuse::Exhausted);
+        }
+        None
+    }
+
     /// Takes a token in, and keeps room for its end.
     #[tactic(auto, using(crate::specs::Conserves::times_accepted))]
     pub fn accept(&mut self, child: ChildId, owner: Owner, work: T) -> Result<Ticket, Refused<T>>
@@ -73,19 +88,8 @@ impl<T: Drop> Book<T> {
         ensures err { IfErr result (λ r. (r.work ≡ work) × (self.new ≡ self.old)) }
         ensures keeps { (o : OwnerValue) → times o self.new ≡ times o self.old + gained o owner result }
     {
-        if let Owner::User(_) = owner
-            && is_full(&self.pending, child)
-        {
-            return Err(Refused {
-                why: Refuse::NotReady,
-                work,
-            });
-        }
-        if self.next == u64::MAX {
-            return Err(Refused {
-                why: Refuse::Exhausted,
-                work,
-            });
+        if let Some(why) = self.refusal(child, owner) {
+            return Err(Refused { why, work });
         }
         let more = self.spare + 1;
         let Ok(()) = grow(&mut self.pending, &mut self.done, &mut self.ups, more) else {
@@ -134,19 +138,8 @@ impl<T: Drop> Book<T> {
         ensures err { IfErr result (λ r. (r.work ≡ work) × (self.new ≡ self.old)) }
         ensures keeps { (o : OwnerValue) → times o self.new ≡ times o self.old + gained o owner result }
     {
-        if let Owner::User(_) = owner
-            && is_full(&self.pending, child)
-        {
-            return Err(Refused {
-                why: Refuse::NotReady,
-                work,
-            });
-        }
-        if self.next == u64::MAX {
-            return Err(Refused {
-                why: Refuse::Exhausted,
-                work,
-            });
+        if let Some(why) = self.refusal(child, owner) {
+            return Err(Refused { why, work });
         }
         let ticket = Ticket(self.next);
         self.spare -= 1;
@@ -261,6 +254,13 @@ impl<T: Drop> Book<T> {
     {
         let i = index_of(&self.pending, ticket)?;
         Some(&self.pending[i].work)
+    }
+
+    /// All pending tokens, oldest first.
+    pub fn pending(&self) -> &[Pending<T>]
+        ensures { result.now ≡ self.now.pending }
+    {
+        &self.pending
     }
 
     /// Gives the pending token another work, and the old one back.

@@ -4,10 +4,9 @@ use Rattle.std.proofs.Common.{sym, ◌∙◌, ap}
 use Rattle.efi_base.specs.declared.tokens.Ticket.{Ticket}
 use Rattle.efi_base.specs.declared.tokens.TokenId.{TokenId}
 use Rattle.efi_base.specs.declared.tokens.Owner.{Owner}
-use Rattle.efi_base.specs.declared.tokens.End.{End}
 use Rattle.efi_book.specs.Books.{Tokens}
 use Rattle.efi_book.specs.Outboxes.{Waiting}
-use Rattle.efi_book.specs.Acts.{Act, Accepted, Ended, Stopped, Cancelled, TokenCancelled, Withdrawn, Reworked, Reserved, Taken, TakenUp, after, runs}
+use Rattle.efi_book.specs.Acts.{Act, Accepted, Stopped, Cancelled, TokenCancelled, after, runs}
 use Rattle.efi_book.specs.Others.{aborts}
 use Rattle.efi_book.specs.Cores.{Drive, id_of, in_tokens, in_outbox, made, own_made, destroyed, configured, drive_cancelled, drive_token_cancelled, posted}
 

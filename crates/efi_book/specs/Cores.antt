@@ -1,5 +1,5 @@
 -- What every driver's calls answer and leave.
-use Rattle.std.specs.Prelude.{ℕ, ◌&&◌, is_some, is_none, Option, Some, None}
+use Rattle.std.specs.Prelude.{ℕ, Bool, find, ◌&&◌, is_some, is_none, Option, Some, None}
 use Rattle.std.specs.Option.{option_and_then}
 use Rattle.efi_base.specs.declared.tokens.ChildId.{ChildId}
 use Rattle.efi_base.specs.declared.tokens.Ticket.{Ticket}
@@ -8,6 +8,7 @@ use Rattle.efi_base.specs.declared.tokens.Owner.{Owner}
 use Rattle.efi_base.specs.declared.refuse.Refuse.{Refuse}
 use Rattle.efi_base.specs.declared.refuse.Refuse.TheVariants.{NotStarted, AlreadyStarted}
 use Rattle.efi_base.specs.Refusals.{first_of, refuse_if}
+use Rattle.efi_book.specs.declared.children.Child.{Child}
 use Rattle.efi_book.specs.Families.{Family, no_children, no_children_from, value_of, handle_refusal, with_child, with_own, without_child, with_value}
 use Rattle.efi_book.specs.Books.{Tokens, no_tokens, no_tokens_from, accept_refusal, with_pending, child_aborted, cancel_refusal, cancelled, token_refusal, token_cancelled}
 use Rattle.efi_book.specs.Outboxes.{Waiting, no_messages}
@@ -20,6 +21,9 @@ pub record Drive (C W M : Type 0) : Type 0 where
 
 abbrev pub id_of : ℕ → ChildId
 id_of serial = record { 0 = serial }
+
+abbrev pub is_configured : {C : Type 0} → Child (Option C) → Bool
+is_configured child = is_some child.value
 
 module _ {C W M : Type 0} where
   abbrev pub start : ℕ → Drive C W M
@@ -40,6 +44,10 @@ module _ {C W M : Type 0} where
   -- the configuration of the named child, if it has one
   abbrev pub cfg_of : Drive C W M → ℕ → ℕ → Option C
   cfg_of s key serial = option_and_then (λ (c : Option C). c) (value_of s.family key serial)
+
+  -- a caller's child is configured
+  abbrev pub is_busy : Drive C W M → Bool
+  is_busy s = is_some (find is_configured s.family.live)
 
   abbrev pub made : Drive C W M → ℕ → Drive C W M
   made s key = in_family s (with_child s.family key None)

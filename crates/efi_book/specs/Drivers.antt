@@ -1,6 +1,6 @@
 -- The law of a driver that is made of a core: what holds of a book over any list of acts holds of its tokens over any
 -- list of calls.
-use Rattle.std.specs.Prelude.{◌≡◌, refl, ℕ, ◌+◌, ◌≤◌, false, List, Option, Some, None}
+use Rattle.std.specs.Prelude.{◌≡◌, refl, ℕ, ◌+◌, ◌≤◌, false, List, Some, None}
 use Rattle.std.proofs.Common.{sym, ap, subst, arith}
 use Rattle.efi_book.specs.Books.{Tokens, no_tokens}
 use Rattle.efi_book.specs.Acts.{Accepted, Stopped, after, runs, held, all_takes, given_out}

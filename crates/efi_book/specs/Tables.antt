@@ -1,5 +1,5 @@
 -- How a table keeps children: a slot for each key, and the keys in the order of making.
-use Rattle.std.specs.Prelude.{◌≡◌, ℕ, ◌+◌, ◌≤◌, Bool, true, false, not, ◌==◌, ◌||◌, List, [], ◌∷◌, ◌++◌, length, filter_map, Option, Some, None, is_some, IsSomeAnd, if◌then◌else◌}
+use Rattle.std.specs.Prelude.{◌≡◌, ℕ, ◌≤◌, Bool, true, false, not, ◌==◌, ◌||◌, List, [], ◌∷◌, ◌++◌, length, filter_map, Option, Some, None, is_some, IsSomeAnd, if◌then◌else◌}
 use Rattle.slab.specs.Slab.{Slab, get, slab_len}
 use Rattle.efi_book.specs.declared.children.Child.{Child}
 

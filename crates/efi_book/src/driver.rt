@@ -38,7 +38,7 @@ pub struct Core<K, C, W, M> {
 
 impl<K: Copy + Drop, C: Copy + Drop, W: Drop, M: Drop> Core<K, C, W, M> {
     ghost use Rattle.efi_book.specs.Drives.{drive};
-    ghost use Rattle.efi_book.specs.Cores.{start, start_from, cfg_of, made, own_made, destroyed, configure_refusal, configured, drive_cancel_refusal, drive_cancelled, drive_token_refusal, drive_token_cancelled, post_refusal, posted, in_tokens, in_outbox};
+    ghost use Rattle.efi_book.specs.Cores.{start, start_from, cfg_of, made, own_made, destroyed, configure_refusal, configured, is_busy, drive_cancel_refusal, drive_cancelled, drive_token_refusal, drive_token_cancelled, post_refusal, posted, in_tokens, in_outbox};
 
     /// Room for 256 children of callers, and for `own` that the stack keeps for itself.
     pub fn new(alloc: Global, kind: K, own: u32) -> Result<Core<K, C, W, M>, NoMemory>
@@ -115,6 +115,20 @@ impl<K: Copy + Drop, C: Copy + Drop, W: Drop, M: Drop> Core<K, C, W, M> {
             Some(c) => Ok(*c),
             None => Err(Refuse::BadHandle),
         }
+    }
+
+    /// Whether a caller's child is configured.
+    pub fn is_busy(&self) -> bool
+        ensures { result ≡ is_busy (drive self.now) }
+    {
+        let mut i = 0;
+        while i < self.children.len() {
+            if self.children.at(i).value.is_some() {
+                return true;
+            }
+            i += 1;
+        }
+        false
     }
 
     /// Whether a caller's child has this handle.

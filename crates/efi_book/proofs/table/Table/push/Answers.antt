@@ -1,4 +1,4 @@
-use Rattle.std.proofs.Common.{◌≡◌, Bool, false, true, [], ◌∷◌, ◌++◌, Option, Some, refl, sym, ap, ◌∙◌, length-append, subst, arith}
+use Rattle.std.proofs.Common.{◌≡◌, false, [], ◌∷◌, Some, refl, sym, ap, ◌∙◌, length-append, arith}
 use Rattle.slab.specs.Slab.{get, Updates}
 use Rattle.efi_book.specs.Tables.{has_key, children_at}
 use Rattle.efi_book.proofs.Places.{vacant, counted, pushed, stands_pushed, known_pushed}

@@ -1,4 +1,4 @@
-use Rattle.std.proofs.Common.{◌≡◌, true, is_some, Option, option_map, sym, ap, ◌∙◌, arith}
+use Rattle.std.proofs.Common.{◌≡◌, true, is_some, option_map, sym, ap, ◌∙◌, arith}
 use Rattle.std.specs.Option.{option_copied}
 use Rattle.slab.specs.Slab.{get}
 use Rattle.efi_book.specs.declared.children.Child.{Child}

@@ -1,5 +1,5 @@
-//! A program to time a book with: a token is accepted, ends and is taken, so many times. The clock is the caller's
-//! (bench/book.py).
+//! A program to time a book with: a token is accepted, ends and is taken, so many times, while on so many other children
+//! as many tokens as may be are pending. The clock is the caller's (bench/book.py).
 #![tactic(auto)]
 
 use efi_base::{ChildId, End, Owner, TokenId};
@@ -8,15 +8,27 @@ use std::{env, io};
 
 fn main(rt: HostRuntime) -> io::Result<()> {
     let mut words = env::args(&rt)?.skip(1);
-    let rounds = rounds_of(words.next());
+    let rounds = number_of(words.next(), 1);
+    let others = number_of(words.next(), 0);
     let mut book = Book::new(rt.alloc());
+    fill(&mut book, others);
     println!(rt; "{}", repeat(&mut book, rounds))
 }
 
-fn rounds_of(word: Option<String>) -> u32 {
+fn number_of(word: Option<String>, otherwise: u32) -> u32 {
     match word {
-        Some(word) => word.parse::<u32>().unwrap_or(1),
-        None => 1,
+        Some(word) => word.parse::<u32>().unwrap_or(otherwise),
+        None => otherwise,
+    }
+}
+
+/// As many tokens as may be are pending on each of so many other children.
+fn fill(book: &mut Book<u32>, others: u32) {
+    for other in 0..others {
+        for n in 0..64u32 {
+            let owner = Owner::User(TokenId(n as u64));
+            let _ticket = book.accept(ChildId(other as u64 + 2), owner, n);
+        }
     }
 }
 

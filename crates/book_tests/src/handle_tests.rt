@@ -24,7 +24,9 @@ fn stale(rt: HostRuntime) -> Result<(), Fail> {
     let mut core = core_at(rt.alloc(), 1, 1)?;
     let gone = core.create()?;
     let kept = core.create()?;
+    assert!(rt; !core.is_busy());
     core.configure(kept, Some(5))?;
+    assert!(rt; core.is_busy());
     core.destroy(gone)?;
     let again = core.create()?;
     assert_eq!(rt; (again.key, again.serial), (gone.key, 3));
@@ -66,8 +68,11 @@ fn values(rt: HostRuntime) -> Result<(), Fail> {
         Err(refused) => assert_eq!(rt; (refused.why, refused.work), (Refuse::NotReady, 9)),
     }
     pair.put(first, 4);
-    assert_eq!(rt; (pair.get(first), pair.get(second)), (Some(&4), Some(&8)));
-    assert_eq!(rt; pair.destroy(second), Ok(8));
-    assert_eq!(rt; pair.get(second), None);
+    if let Some(value) = pair.get_mut(second) {
+        *value = 5;
+    }
+    assert_eq!(rt; (pair.get(first), pair.get(second)), (Some(&4), Some(&5)));
+    assert_eq!(rt; pair.destroy(second), Ok(5));
+    assert!(rt; pair.get_mut(second).is_none());
     Ok(())
 }

@@ -70,12 +70,20 @@ fn exits(rt: HostRuntime) -> Result<(), Fail> {
     let upper = Owner::Upper(Proto::Ip4, Ticket(5));
     let sent = book.accept(ChildId(3), upper, Frame(1))?;
     assert!(rt; book.reserve(u32::MAX).is_err());
+    assert_eq!(rt;
+        (book.oldest(ChildId(3)), book.pending().len()),
+        (Some(sent), 1)
+    );
     book.reserve(1)?;
     book.accept_spare(ChildId(3), Owner::User(TokenId(1)), Frame(2))?;
     assert_eq!(rt; book.oldest(ChildId(3)), Some(sent));
     assert_eq!(rt; book.oldest_kind(ChildId(3), 2), Some(Ticket(2)));
     book.put_work(Ticket(2), Frame(4));
-    assert_eq!(rt; book.work(Ticket(2)), Some(&Frame(4)));
+    if let Some(work) = book.work_mut(Ticket(2)) {
+        *work = Frame(work.0 + 1);
+    }
+    assert!(rt; book.work_mut(Ticket(3)).is_none());
+    assert_eq!(rt; book.work(Ticket(2)), Some(&Frame(5)));
     book.abort_owner(upper);
     assert!(rt; book.take_done().is_none());
     match book.take_up() {

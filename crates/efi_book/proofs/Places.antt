@@ -295,3 +295,26 @@ module _ {C : Type 0} where
       let same : k ≡ key = cc in
       subst (λ (x : ℕ). is_some (at x) ≡ true) same (some-and (at k) k s.0)
   held at (k ∷ ks) (suc i) key s e = held at ks i key s.2 e
+
+  -- the child under a key that the order names tells it
+  key-and : (o : Option (Child C)) (k : ℕ) (c : Child C) → o ≡ Some c → IsSomeAnd o (λ x. x.key ≡ k) → c.key ≡ k
+  key-and None k c e h = absurd h
+  key-and (Some d) k c e h =
+      let same : d ≡ c = cc in
+      subst (λ (x : Child C). x.key ≡ k) same h
+
+  pub names : (at : ℕ → Option (Child C)) (ks : List ℕ) (key : ℕ) (c : Child C) → Stands at ks → at key ≡ Some c → has_key key ks ≡ true → c.key ≡ key
+  names at [] key c s e h = absurd (cc)
+  names at (k ∷ ks) key c s e h =
+      elim (cases_eq k key) [
+        | inl same ↦ key-and (at k) k c (ap at same ∙ e) s.0 ∙ same
+        | inr differs ↦
+            let rest : has_key key ks ≡ true = grind (arith, nat_tests) in
+            names at ks key c s.2 e rest
+      ]
+
+  pub serial_is : (o : Option (Child C)) (c : Child C) (serial : ℕ) → o ≡ Some c → IsSomeAnd o (λ x. x.serial ≡ serial) → c.serial ≡ serial
+  serial_is None c serial e h = absurd h
+  serial_is (Some d) c serial e h =
+      let same : d ≡ c = cc in
+      subst (λ (x : Child C). x.serial ≡ serial) same h

@@ -15,7 +15,7 @@ use Rattle.efi_book.specs.declared.ends.Done.{Done}
 use Rattle.efi_book.specs.declared.ends.Raised.{Raised}
 use Rattle.efi_book.specs.declared.ends.Whose.TheVariants.{Child, Owner as OwnedBy}
 use Rattle.efi_book.specs.Pendings.{is_at, is_childs, is_token}
-use Rattle.efi_book.specs.Books.{Tokens, no_tokens, left_at, ended_at, set_at, put_at}
+use Rattle.efi_book.specs.Books.{Tokens, no_tokens_from, left_at, ended_at, set_at, put_at}
 use Rattle.efi_book.specs.Conserves.{at_users, at_uppers, total_accepted, total_ended, total_aborted, total_put}
 use Rattle.efi_book.specs.Acts.{Act, Accepted, Ended, Stopped, Cancelled, TokenCancelled, Withdrawn, Reworked, Reserved, Taken, TakenUp, after, runs, same_ticket, held, first_done, first_up, takes, accepts, all_takes, all_accepts, given_out}
 
@@ -95,7 +95,8 @@ module _ {T : Type 0} (n : ℕ) where
   runs_number s (a ∷ acts) = omega (arith, act_numbers s a, runs_number (after s a) acts)
 
   -- from the start on, the token of each ticket that was given out is pending, ended or taken, once
-  pub each_once : (acts : List (Act T)) → 1 ≤ n → held n (runs no_tokens acts) + all_takes n no_tokens acts ≡ given_out n (runs no_tokens acts)
-  each_once acts up =
-      let none : given_out n (no_tokens {T = T}) ≡ 0 = grind (arith, nat_tests) in
-      omega (arith, runs_keep no_tokens acts, runs_number no_tokens acts, none)
+  pub each_once : (first : ℕ) (acts : List (Act T)) → first ≤ n
+      → held n (runs (no_tokens_from first) acts) + all_takes n (no_tokens_from first) acts ≡ given_out n (runs (no_tokens_from first) acts)
+  each_once first acts up =
+      let none : given_out n (no_tokens_from {T = T} first) ≡ 0 = grind (arith, nat_tests) in
+      omega (arith, runs_keep (no_tokens_from first) acts, runs_number (no_tokens_from first) acts, none)

@@ -22,6 +22,7 @@ pub record Drive (C W M : Type 0) : Type 0 where
 abbrev pub id_of : ℕ → ChildId
 id_of serial = record { 0 = serial }
 
+-- the child has a configuration
 abbrev pub is_configured : {C : Type 0} → Child (Option C) → Bool
 is_configured child = is_some child.value
 

@@ -2,22 +2,23 @@
 -- list of calls.
 use Rattle.std.specs.Prelude.{◌≡◌, refl, ℕ, ◌+◌, ◌≤◌, false, List, Some, None}
 use Rattle.std.proofs.Common.{sym, ap, subst, arith}
-use Rattle.efi_book.specs.Books.{Tokens, no_tokens}
+use Rattle.efi_book.specs.Books.{Tokens, no_tokens_from}
 use Rattle.efi_book.specs.Acts.{Accepted, Stopped, after, runs, held, all_takes, given_out}
 use Rattle.efi_book.specs.ActLaws.{each_once}
 use Rattle.efi_book.specs.Aborts.{Stops, stops}
 use Rattle.efi_book.specs.Others.{aborted_ends, no_others}
-use Rattle.efi_book.specs.Cores.{Drive, id_of, start}
+use Rattle.efi_book.specs.Cores.{Drive, id_of, start_from}
 use Rattle.efi_book.specs.Calls.{Call, Create, CreateOwn, Destroy, Configure, Cancel, CancelToken, Post, Book, Messages, called, all_called, all_acts, stopped_by, call_aborts, calls_are_acts}
 
 module _ {C W M : Type 0} where
   -- each ticket that was given out has its token in the book, or its token was taken, once
-  pub driver_once : (own n : ℕ) (calls : List (Call C W M)) → 1 ≤ n
-      → held n (all_called (start own) calls).tokens + all_takes n no_tokens (all_acts calls) ≡ given_out n (all_called (start own) calls).tokens
-  driver_once own n calls up =
-      let same : (all_called (start own) calls).tokens ≡ runs no_tokens (all_acts calls) = calls_are_acts (start own) calls in
-      let Once : Tokens W → Type 0 = λ s. held n s + all_takes n no_tokens (all_acts calls) ≡ given_out n s in
-      subst Once (sym same) (each_once n (all_acts calls) up)
+  pub driver_once : (own serial first n : ℕ) (calls : List (Call C W M)) → first ≤ n
+      → held n (all_called (start_from own serial first) calls).tokens + all_takes n (no_tokens_from first) (all_acts calls)
+      ≡ given_out n (all_called (start_from own serial first) calls).tokens
+  driver_once own serial first n calls up =
+      let same : (all_called (start_from own serial first) calls).tokens ≡ runs (no_tokens_from first) (all_acts calls) = calls_are_acts (start_from own serial first) calls in
+      let Once : Tokens W → Type 0 = λ s. held n s + all_takes n (no_tokens_from first) (all_acts calls) ≡ given_out n s in
+      subst Once (sym same) (each_once n first (all_acts calls) up)
 
   stop-is : (s : Drive C W M) (call : Call C W M) (serial : ℕ) → stopped_by call ≡ Some serial → (called s call).tokens ≡ after s.tokens (Stopped (id_of serial))
   stop-is s (Create key) serial e = absurd (cc)
@@ -34,14 +35,14 @@ module _ {C W M : Type 0} where
   stop-is s (Messages b) serial e = absurd (cc)
 
   -- a destroy, a reset or a cancel of all ends exactly the child's pending tokens, by rising ticket, as aborted
-  pub driver_stops : (own serial : ℕ) (calls : List (Call C W M)) (call : Call C W M) → stopped_by call ≡ Some serial
-      → Stops (all_called (start own) calls).tokens (called (all_called (start own) calls) call).tokens (id_of serial)
-  driver_stops own serial calls call e =
-      let s = all_called (start own) calls in
-      let same : s.tokens ≡ runs no_tokens (all_acts calls) = calls_are_acts (start own) calls in
-      let Ends : Tokens W → Type 0 = λ t. Stops t (after t (Stopped (id_of serial))) (id_of serial) in
-      let Left : Tokens W → Type 0 = λ t. Stops s.tokens t (id_of serial) in
-      subst Left (sym (stop-is s call serial e)) (subst Ends (sym same) (stops (all_acts calls) (id_of serial)))
+  pub driver_stops : (own serial first child : ℕ) (calls : List (Call C W M)) (call : Call C W M) → stopped_by call ≡ Some child
+      → Stops first (all_called (start_from own serial first) calls).tokens (called (all_called (start_from own serial first) calls) call).tokens (id_of child)
+  driver_stops own serial first child calls call e =
+      let s = all_called (start_from own serial first) calls in
+      let same : s.tokens ≡ runs (no_tokens_from first) (all_acts calls) = calls_are_acts (start_from own serial first) calls in
+      let Ends : Tokens W → Type 0 = λ t. Stops first t (after t (Stopped (id_of child))) (id_of child) in
+      let Left : Tokens W → Type 0 = λ t. Stops first s.tokens t (id_of child) in
+      subst Left (sym (stop-is s call child e)) (subst Ends (sym same) (stops first (all_acts calls) (id_of child)))
 
   -- no other call brings an end as aborted
   pub driver_others : (s : Drive C W M) (call : Call C W M) → call_aborts call ≡ false → aborted_ends (called s call).tokens ≤ aborted_ends s.tokens

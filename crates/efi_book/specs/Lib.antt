@@ -28,5 +28,9 @@ pub mod Aborts
 pub mod Others
 -- what a driver does with its core, call by call, and which acts of the book each call is
 pub mod Calls
+-- serials of children over any list of calls
+pub mod Serials
 -- what a driver inherits that is made of a core
 pub mod Drivers
+-- what a book, a table and a driver's children end as, where a work or a value is lent for writing
+pub mod Lends

@@ -3,6 +3,9 @@
 ghost use Rattle.std.specs.Prelude.{◌≡◌, ℕ, ◌+◌, ◌-◌, ◌<◌, ◌≤◌, ◌^◌, [], ◌∷◌, max, length, option_copied, slice_get, IsSome, IfSome, IfNone, IfOk, IfErr, OnOk, OnErr, vec_len, vec_capacity};
 ghost use Rattle.std.specs.VecDeque.{deque_len, deque_capacity};
 ghost use Rattle.efi_base.specs.Refusals.{AnswersBy, HandsBackExactly, RefusesExactly};
+ghost use Rattle.std.specs.Borrow.{sem};
+ghost use Rattle.std.specs.Option.{option_copied_mut};
+ghost use Rattle.efi_book.specs.Lends.{lends_work};
 
 use crate::ends::{
     Done, Kinded, Pending, Raised, Whose, abort_of, index_of, index_of_childs, index_of_kind,
@@ -273,6 +276,18 @@ impl<T: Drop> Book<T> {
         let i = index_of(&self.pending, ticket)?;
         let p = &mut self.pending[i];
         Some(mem::replace(&mut p.work, work))
+    }
+
+    /// The work of a pending token, for writing: when the borrow is over, the book is as after `put_work` of what was
+    /// written last. So no token is lost or doubled, whatever is written.
+    pub fn work_mut(&mut self, ticket: Ticket) -> Option<&mut T>
+        ensures* writes_back { sem 𝓛 (lends_work T.row self.entry ticket result) }
+        ensures value { option_copied_mut result ≡ work_of self.old ticket }
+    {
+        match index_of(&self.pending, ticket) {
+            Some(i) => Some(&mut self.pending[i].work),
+            None => None,
+        }
     }
 
     /// The caller's token that ended first. It takes no memory.

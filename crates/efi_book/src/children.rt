@@ -1,6 +1,8 @@
 //! The children of a driver under handles: the callers', and those that the stack keeps for itself. What a child is
 //! configured with, and its tokens, aren't looked at here.
 ghost use Rattle.std.specs.Prelude.{◌≡◌, ℕ, ◌+◌, ◌<◌, length, slice_get, option_copied, IfOk, IfErr, Some};
+ghost use Rattle.std.specs.Borrow.{sem};
+ghost use Rattle.std.specs.Option.{option_copied_mut};
 ghost use Rattle.efi_base.specs.Refusals.{HandsBackExactly, RefusesExactly};
 
 use crate::table::Table;
@@ -50,6 +52,7 @@ impl<K, C> Model for Children<K, C> {
 
 impl<K: Copy + Drop, C: Drop> Children<K, C> {
     ghost use Rattle.efi_book.specs.Families.{no_children, no_children_from, create_refusal, create_own_refusal, handle_refusal, with_child, with_own, without_child, with_value, value_of, is_callers};
+    ghost use Rattle.efi_book.specs.Lends.{lends_child};
 
     /// Room for 256 children of callers.
     pub fn new(alloc: Global, kind: K) -> Result<Children<K, C>, NoMemory>
@@ -177,6 +180,19 @@ impl<K: Copy + Drop, C: Drop> Children<K, C> {
         }
         let child = self.own.find(h.key, h.serial)?;
         Some(&child.value)
+    }
+
+    /// The named child's value, for writing: when the borrow is over, the children are as after `put` of what was
+    /// written last.
+    pub fn get_mut(&mut self, h: Handle<K>) -> Option<&mut C>
+        ensures* writes_back { sem 𝓛 (lends_child C.row K.row self.entry h.key h.serial result) }
+        ensures value { option_copied_mut result ≡ value_of self.old h.key h.serial }
+    {
+        if self.is_callers(h) {
+            self.live.value_mut(h.key, h.serial)
+        } else {
+            self.own.value_mut(h.key, h.serial)
+        }
     }
 
     /// Gives the named child another value. Where there is none, nothing changes.

@@ -8,8 +8,9 @@
 //!    first, so a driver asks `mode` before its own tests.
 //! 4. `post`: `mode`, the driver's own refusals, `outbox.reserve` for the messages that the token will send, and last
 //!    `accept`, so that a refused post changes nothing. From then on the token's end takes no memory.
-//! 5. `tokens.oldest`, `oldest_kind` and `work` to find what an event is for, and `complete` or `complete_with` for its
-//!    end; `abort_owner` where the layer above withdraws what it waits for; `outbox.put` for what is sent.
+//! 5. `tokens.oldest`, `oldest_kind` and `work` to find what an event is for, `tokens.work_mut` to change what a token
+//!    waits with, and `complete` or `complete_with` for its end; `is_busy` where the driver works only while a caller's
+//!    child is configured; `abort_owner` where the layer above withdraws what it waits for; `outbox.put` for what is sent.
 //! 6. `cancel` or `cancel_token` for the caller's cancel of one token or of all.
 //! 7. after each event `take_done` for callers, `take_up` for the driver above and `take_down` for the layer below,
 //!    each until it gives `None`.

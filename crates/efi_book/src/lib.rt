@@ -10,7 +10,7 @@ mod children;
 mod driver;
 // single tokens, and where they go when they end
 mod ends;
-// what holds of a book over any list of acts
+// what holds of a book over any list of acts, and of a driver over any list of calls
 mod laws;
 // messages for the layer below
 mod outbox;
@@ -22,8 +22,8 @@ pub use children::{CHILDREN, Child, Children, Handle, OWN_CHILDREN};
 pub use driver::Core;
 pub use ends::{Done, Kinded, Pending, Raised, TOKENS};
 pub use laws::{
-    a_drivers_stop_ends_the_childs_alone, a_drivers_token_is_once, a_stop_ends_the_childs_alone,
-    calls_are_acts_of_the_book, each_token_is_once, nothing_else_aborts,
-    nothing_else_aborts_in_a_driver,
+    a_drivers_stop_ends_the_childs_alone, a_drivers_token_is_once, a_serial_is_once,
+    a_stop_ends_the_childs_alone, calls_are_acts_of_the_book, each_token_is_once,
+    nothing_else_aborts, nothing_else_aborts_in_a_driver,
 };
 pub use outbox::Outbox;

@@ -1,6 +1,8 @@
 //! One table of children: a slab of them, and their keys in the order of making. Serials and handles are given out
 //! elsewhere.
 ghost use Rattle.std.specs.Prelude.{◌≡◌, ℕ, ◌+◌, ◌<◌, ◌≤◌, [], ◌∷◌, ◌++◌, length, map, filter, find, is_some, slice_get, option_copied, option_map, IfSome, IfNone, IfOk, Some, vec_len, vec_capacity};
+ghost use Rattle.std.specs.Borrow.{sem};
+ghost use Rattle.std.specs.Option.{option_copied_mut};
 ghost use Rattle.slab.specs.Slab.{get};
 ghost use Rattle.efi_book.specs.Tables.{is_not_key, in_slot};
 ghost use Rattle.efi_book.specs.Families.{is_named, is_not_named, renewed};
@@ -75,6 +77,7 @@ fn value_in<C>(child: Child<C>) -> C
 
 impl<C: Drop> Table<C> {
     ghost use Rattle.efi_book.specs.Tables.{no_rows, with_row, with_rows};
+    ghost use Rattle.efi_book.specs.Lends.{lends_row};
 
     /// Room for so many children.
     pub fn with_room(alloc: Global, room: usize) -> Result<Table<C>, NoMemory>
@@ -141,6 +144,17 @@ impl<C: Drop> Table<C> {
             return;
         }
         let _old = mem::replace(&mut self.slots[key], Child { key, serial, value });
+    }
+
+    /// The value of the child with this key and serial, for writing.
+    pub fn value_mut(&mut self, key: usize, serial: u64) -> Option<&mut C>
+        ensures* writes_back { sem 𝓛 (lends_row C.row self.entry key serial result) }
+        ensures value { option_copied_mut result ≡ option_map (λ c. c.value) (find (is_named key serial) self.old.children) }
+    {
+        if let None = under(&self.slots, key, serial) {
+            return None;
+        }
+        Some(&mut self.slots[key].value)
     }
 
     /// The child at this place, in the order of making.

@@ -10,5 +10,8 @@ mod laws;
 // a moment for each number
 mod timers;
 
-pub use laws::{clear_takes_the_row, next_is_the_least_row, set_gives_the_row};
+pub use laws::{
+    a_jump_is_the_ticks, clear_takes_the_row, next_is_the_least_row, set_gives_the_row,
+    the_rest_is_quiet,
+};
 pub use timers::{Timer, Timers};

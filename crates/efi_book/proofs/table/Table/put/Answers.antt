@@ -1,11 +1,11 @@
-use Rattle.std.proofs.Common.{◌≡◌, ℕ, true, is_some, Option, Some, None, cond, sym, ap, ◌∙◌, arith}
+use Rattle.std.proofs.Common.{◌≡◌, true, is_some, Some, sym, ap, ◌∙◌}
 use Rattle.std.specs.Option.{option_copied}
-use Rattle.std.proofs.lemmas.List.Sums.{sum_by-set}
 use Rattle.slab.specs.Slab.{get, with_value}
-use Rattle.slab.proofs.SlabLemmas.{Updates-with_value, ContainsKey-within}
+use Rattle.slab.proofs.SlabLemmas.{Updates-with_value}
 use Rattle.efi_book.specs.declared.children.Child.{Child}
 use Rattle.efi_book.specs.Tables.{children_at, in_slot}
-use Rattle.efi_book.proofs.Places.{look, renew, renew_none, stands_renewed, known_renewed, slot_and}
+use Rattle.efi_book.proofs.Places.{look, renew, renew_none, slot_and}
+use Rattle.efi_book.proofs.Kept.{kept_with}
 use Rattle.efi_book.proofs.table.Table.put.Goals as goal
 
 pub returns-in-None : goal.returns-in-None
@@ -19,21 +19,9 @@ returns-in-None g c =
 
 pub invariant_of-self : goal.invariant_of-self
 invariant_of-self g c =
-    let s = c.self.inside.slots in
-    let ks = c.self.inside.order.items in
-    let new = c.replace-old.new.dest in
-    let there : is_some (get s c.args.key) ≡ true = ap is_some c.index_mut.ensures.value in
-    let up = Updates-with_value s c.args.key new there in
-    let named : new.key ≡ c.args.key = ap (λ (x : Child g.row.C.Denot). x.key) c.replace-old.ensures.after in
-    let f : Option (Child g.row.C.Denot) → ℕ = λ o. cond (is_some o) 1 0 in
-    let one : f (get s c.args.key) ≡ f (Some new) = ap (λ b. cond b 1 0) there in
-    record {
-      stands = stands_renewed (get s) (get (with_value s c.args.key new)) ks c.args.key new c.self.invariant.stands up.changed named up.others;
-      known = λ k h. known_renewed (get s) (get (with_value s c.args.key new)) ks c.args.key k c.self.invariant.known there up.others h;
-      count = omega (arith, c.self.invariant.count, one, sum_by-set f s.slots c.args.key (Some new) None (ContainsKey-within s c.args.key there));
-      slots_room = c.self.invariant.slots_room;
-      order_room = c.self.invariant.order_room;
-    }
+    let there : is_some (get c.self.inside.slots c.args.key) ≡ true = ap is_some c.index_mut.ensures.value in
+    let named : c.replace-old.new.dest.key ≡ c.args.key = ap (λ (x : Child g.row.C.Denot). x.key) c.replace-old.ensures.after in
+    kept_with c.self.inside.slots c.self.inside.order.items c.self.inside.room _ c.args.key c.replace-old.new.dest c.self.invariant there named
 
 pub returns : goal.returns
 returns g c =

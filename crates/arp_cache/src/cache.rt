@@ -4,7 +4,10 @@ ghost use Rattle.efi_base.specs.Refusals.{RefusesExactly};
 ghost use Rattle.arp_cache.specs.Entries.{mac_of};
 ghost use Rattle.arp_cache.specs.Caches.{entered, add_refusal, delete_refusal, flush_refusal, after_flush, after_time, after_heard, after_add, with_room, join, without};
 
-use crate::entries::{any_unfixed, keep_only, mac_in, refresh_all, stalest_in};
+use crate::entries::{
+    any_live_unfixed, any_unfixed, keep_only, live_len, live_mac_in, mac_in, refresh_all,
+    stalest_in,
+};
 use crate::entry::{Entry, Keep};
 use efi_base::{Ip4, Mac, NoMemory, Refuse, Tick};
 use std::alloc::Global;
@@ -47,6 +50,42 @@ impl Cache {
         ensures { result ≡ mac_of self.now ip.0 }
     {
         mac_in(&self.entries, ip)
+    }
+
+    /// As `find`, by the entries that haven't ended at a moment.
+    pub fn find_at(&self, ip: Ip4, now: Tick) -> Option<Mac>
+        ensures { result ≡ mac_of (after_time now.0 self.now) ip.0 }
+    {
+        live_mac_in(&self.entries, ip, now)
+    }
+
+    /// Why `add` would refuse an address once the entries are gone that have ended at a moment.
+    pub fn add_refusal(&self, ip: Ip4, over: bool, now: Tick) -> Option<Refuse>
+        ensures { result ≡ add_refusal (after_time now.0 self.now) ip.0 over }
+    {
+        if let Some(_) = self.find_at(ip, now) {
+            if over {
+                return None;
+            }
+            return Some(Refuse::AccessDenied);
+        }
+        if live_len(&self.entries, now) < MOST {
+            return None;
+        }
+        if any_live_unfixed(&self.entries, now) {
+            return None;
+        }
+        Some(Refuse::NotReady)
+    }
+
+    /// Why `flush` would refuse once the entries are gone that have ended at a moment.
+    pub fn flush_refusal(&self, now: Tick) -> Option<Refuse>
+        ensures { result ≡ flush_refusal (after_time now.0 self.now) }
+    {
+        if any_live_unfixed(&self.entries, now) {
+            return None;
+        }
+        Some(Refuse::NotFound)
     }
 
     /// Adds an entry, or puts it in the place of that of its address where `over` says so.

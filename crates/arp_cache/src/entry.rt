@@ -29,7 +29,7 @@ pub(crate) enum Keep {
 
 impl Entry {
     /// Whether it hasn't ended at a moment.
-    fn is_live(&self, now: Tick) -> bool
+    pub(crate) fn is_live(&self, now: Tick) -> bool
         ensures { result ≡ is_live now.0 self.now }
     {
         if self.fixed {

@@ -1,0 +1,2 @@
+-- one step of a walk over children
+pub mod Steps

@@ -4,7 +4,7 @@ ghost use Rattle.std.specs.Prelude.{◌≡◌, ℕ, ◌+◌, ◌-◌, ◌≤◌,
 ghost use Rattle.efi_base.specs.Refusals.{AnswersBy, RefusesBy, RefusesExactly};
 ghost use Rattle.efi_base.specs.declared.tokens.Owner.{Owner as OwnerValue};
 ghost use Rattle.efi_book.specs.Books.{Keeps, given, given_up, owner_aborted, times, without_done, without_up};
-ghost use Rattle.efi_book.specs.Cores.{cfg_of, configured, destroyed, drive_cancelled, drive_cancel_refusal, drive_token_cancelled, drive_token_refusal, in_outbox, in_tokens, made, own_made, post_refusal};
+ghost use Rattle.efi_book.specs.Cores.{cfg_of, configured, destroyed, drive_cancelled, drive_cancel_refusal, drive_token_cancelled, drive_token_refusal, in_outbox, in_tokens, is_busy, made, own_made, post_refusal};
 ghost use Rattle.efi_book.specs.Families.{create_own_refusal, create_refusal, handle_refusal, is_callers as callers};
 ghost use Rattle.efi_book.specs.Outboxes.{without_first};
 ghost use Rattle.efi_book.specs.Owners.{gained};
@@ -27,7 +27,7 @@ use wire_link::Arp;
 
 /// The driver of the station with an Ethernet address.
 #[derive(Drop)]
-pub struct ArpDriver {
+pub struct DrvArp {
     alloc: Global,
     core: Core<ArpK, ArpCfg, Ask, Arp>,
     cache: Cache,
@@ -35,7 +35,7 @@ pub struct ArpDriver {
     moment: Tick,
 }
 
-impl Model for ArpDriver {
+impl Model for DrvArp {
     ghost use Rattle.std.specs.Prelude.{◌≤◌, ◌^◌};
     ghost use Rattle.efi_book.specs.Drives.{drive};
     ghost use Rattle.drv_arp.specs.Arps.{ArpState};
@@ -47,14 +47,14 @@ impl Model for ArpDriver {
     ghost invariant = { λ d. d.moment.0 ≤ 2 ^ 62 };
 }
 
-impl ArpDriver {
+impl DrvArp {
     /// A driver without children, at the moment 0. It takes the room of its children and of its cache.
-    pub fn new(alloc: Global, mac: Mac) -> Result<ArpDriver, NoMemory>
+    pub fn new(alloc: Global, mac: Mac) -> Result<DrvArp, NoMemory>
         ensures { IfOk result (λ d. d ≡ started 258 mac) }
     {
         let core = Core::new(alloc, ArpK, OWN_CHILDREN)?;
         let cache = Cache::new(alloc)?;
-        Ok(ArpDriver {
+        Ok(DrvArp {
             alloc,
             core,
             cache,
@@ -104,6 +104,13 @@ impl ArpDriver {
         ensures { result ≡ callers self.now.drive.family h.key h.serial }
     {
         self.core.is_callers(h)
+    }
+
+    /// Whether a caller's child is configured.
+    pub fn is_busy(&self) -> bool
+        ensures { result ≡ is_busy self.now.drive }
+    {
+        self.core.is_busy()
     }
 
     /// With data the child gets it; without, the child is reset, and its pending tokens end as aborted. The cache stays.
@@ -185,6 +192,17 @@ impl ArpDriver {
         match self.cache.find_at(work.ip, self.moment) {
             Some(mac) => accept_known(&mut self.core, ChildId(h.serial), owner, ask, mac),
             None => accept_unknown(&mut self.core, ChildId(h.serial), owner, ask, self.mac),
+        }
+    }
+
+    /// Why `post` would refuse, but for want of memory.
+    pub fn refusal(&self, h: Handle<ArpK>, owner: Owner) -> Option<Refuse>
+        ensures { result ≡ post_refusal self.now.drive h.key h.serial owner }
+    {
+        match self.core.mode(h) {
+            Ok(Some(_)) => self.core.tokens.refusal(ChildId(h.serial), owner),
+            Ok(None) => Some(Refuse::NotStarted),
+            Err(why) => Some(why),
         }
     }
 

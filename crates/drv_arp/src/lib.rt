@@ -16,5 +16,5 @@ mod ours;
 mod told;
 
 pub use asks::{ArpCfg, ArpK, ArpWork, Ask};
-pub use driver::ArpDriver;
+pub use driver::DrvArp;
 pub use laws::a_request_goes_each_gap;

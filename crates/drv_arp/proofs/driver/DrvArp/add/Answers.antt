@@ -2,7 +2,7 @@ use Rattle.std.proofs.Common.{sym, ap, ◌∙◌}
 use Rattle.efi_book.specs.Drives.{drive}
 use Rattle.arp_cache.specs.Caches.{entered}
 use Rattle.drv_arp.specs.Arps.{ArpState, added_by, answered, entry_of, in_entries, known}
-use Rattle.drv_arp.proofs.driver.ArpDriver.add.Goals as goal
+use Rattle.drv_arp.proofs.driver.DrvArp.add.Goals as goal
 
 pub returns-clause-ok : goal.returns-clause-ok
 returns-clause-ok c =

@@ -3,8 +3,8 @@ use Rattle.efi_base.specs.declared.plain.Tick.{Tick}
 use Rattle.efi_timer.specs.Ticking.{steps_once, rests}
 use Rattle.drv_arp.specs.Ticks.{acted, at, moment_of, next_of}
 use Rattle.drv_arp.specs.Timed.{IsAny, arp_is_timed}
-use Rattle.drv_arp.proofs.driver.ArpDriver.tick.Goals.{in-Some+then-m-now, in_default}
-use Rattle.drv_arp.proofs.driver.ArpDriver.tick.Goals as goal
+use Rattle.drv_arp.proofs.driver.DrvArp.tick.Goals.{in-Some+then-m-now, in_default}
+use Rattle.drv_arp.proofs.driver.DrvArp.tick.Goals as goal
 
 pub loop-m-smaller : goal.loop-m-smaller
 loop-m-smaller c =

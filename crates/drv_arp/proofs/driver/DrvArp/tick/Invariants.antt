@@ -1,7 +1,7 @@
 use Rattle.std.proofs.Common.{◌≡◌, ◌-◌, ◌≤◌}
 use Rattle.efi_book.specs.Books.{Keeps}
 use Rattle.drv_arp.specs.Ticks.{ticked}
-use Rattle.drv_arp.proofs.driver.ArpDriver.tick.Given as goal
+use Rattle.drv_arp.proofs.driver.DrvArp.tick.Given as goal
 
 abbrev pub invariant-loop-m : goal.invariant-loop-m
 invariant-loop-m l = record {

@@ -1,0 +1,4 @@
+-- the removal of several routes
+pub mod Removing
+-- one step of a walk over children
+pub mod Steps

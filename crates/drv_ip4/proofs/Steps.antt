@@ -1,0 +1,30 @@
+-- One step of a walk over children.
+use Rattle.std.proofs.Common.{◌≡◌, ℕ, ◌+◌, Bool, true, false, List, [], ◌∷◌, ◌++◌, filter, drop, Option, Some, slice_get, refl, sym, ap, ◌∙◌, cond}
+use Rattle.efi_base.specs.declared.units.IpPacket.{IpPacket}
+use Rattle.efi_book.specs.declared.children.Child.{Child}
+use Rattle.efi_book.specs.Books.{Tokens}
+use Rattle.drv_ip4.specs.declared.work.IpCfg.{IpCfg}
+use Rattle.drv_ip4.specs.declared.work.IpWork.{IpWork}
+use Rattle.drv_ip4.specs.Hearing.{all_given}
+use Rattle.drv_ip4.proofs.Removing.{drop-at}
+
+one-given : (d : IpPacket) (b : Bool) (c : Child (Option IpCfg)) (rest : List (Child (Option IpCfg))) (ts : Tokens IpWork)
+    → all_given d (cond b (c ∷ rest) rest) ts ≡ all_given d rest (all_given d (cond b (c ∷ []) []) ts)
+one-given d true c rest ts = refl
+one-given d false c rest ts = refl
+
+-- the child at this place gets the datagram where it passes the test, and then those behind it
+pub given-at : (d : IpPacket) (test : Child (Option IpCfg) → Bool) (cs : List (Child (Option IpCfg))) (k : ℕ) (c : Child (Option IpCfg)) (ts : Tokens IpWork)
+    → slice_get cs k ≡ Some c
+    → all_given d (filter test (drop k cs)) ts ≡ all_given d (filter test (drop (k + 1) cs)) (all_given d (filter test (c ∷ [])) ts)
+given-at d test cs k c ts h =
+    ap (λ l. all_given d (filter test l) ts) (drop-at cs k c h) ∙ one-given d (test c) c (filter test (drop (k + 1) cs)) ts
+
+-- two lists of children, one after the other
+pub both-given : (d : IpPacket) (test : Child (Option IpCfg) → Bool) (xs ys : List (Child (Option IpCfg))) (ts : Tokens IpWork)
+    → all_given d (filter test (xs ++ ys)) ts ≡ all_given d (filter test ys) (all_given d (filter test xs) ts)
+both-given d test [] ys ts = refl
+both-given d test (x ∷ xs) ys ts =
+    one-given d (test x) x (filter test (xs ++ ys)) ts
+    ∙ both-given d test xs ys (all_given d (cond (test x) (x ∷ []) []) ts)
+    ∙ ap (all_given d (filter test ys)) (sym (one-given d (test x) x (filter test xs) ts))

@@ -1,0 +1,10 @@
+-- the kinds of works, and what is wrong with a configuration or a work by itself
+pub mod Works
+-- where the station is in its networks
+pub mod Nets
+-- what is handed down: a datagram to a hop, under the next identification
+pub mod Sendings
+-- which children hear a datagram, and what it does to their tokens
+pub mod Hearing
+-- the driver as contracts see it, and what its calls answer and leave
+pub mod Ips

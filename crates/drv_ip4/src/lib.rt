@@ -1,0 +1,19 @@
+//! IP4 of UEFI: children that send and hear datagrams (RFC 791), the default address, routes, and answers by ICMP. How a
+//! next hop's Ethernet address is found, how a datagram is cut into packets, and frames aren't here.
+#![tactic(auto)]
+
+// the driver and its calls
+mod driver;
+// which children hear a datagram
+mod hearing;
+// answers by ICMP
+mod icmp;
+// addresses and routes
+mod net;
+// what is handed down
+mod sending;
+// configurations, works and messages
+mod work;
+
+pub use driver::DrvIp4;
+pub use work::{Hop, Ip4K, IpCfg, IpTx, IpWork, Sending};

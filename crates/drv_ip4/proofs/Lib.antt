@@ -1,3 +1,5 @@
+-- tokens that end with a default address
+pub mod Losing
 -- the removal of several routes
 pub mod Removing
 -- one step of a walk over children

@@ -12,8 +12,11 @@ use Rattle.efi_base.specs.Refusals.{first_of}
 use Rattle.efi_book.specs.Families.{handle_refusal, is_callers}
 use Rattle.efi_book.specs.Books.{accept_refusal, completed, work_of}
 use Rattle.efi_book.specs.Cores.{Drive, start, id_of, cfg_of, configure_refusal, in_tokens, posted}
-use Rattle.ip_core.specs.Bytes.{Bytes}
-use Rattle.ip_core.specs.Pools.{Pool}
+use Rattle.std.specs.Option.{option_map}
+use Rattle.ip_core.specs.Bytes.{Bytes, bytes_kept}
+use Rattle.ip_core.specs.Pools.{Pool, after_packet, datagram_at}
+use Rattle.wire_ip4.specs.Packet.{Packet}
+use Rattle.drv_ip4.specs.declared.icmp.Heard.{Heard}
 use Rattle.drv_ip4.specs.declared.icmp.Quote.{Quote}
 use Rattle.drv_ip4.specs.declared.sending.Letter.{Letter}
 use Rattle.drv_ip4.specs.declared.work.Hop.{Hop}
@@ -23,8 +26,11 @@ use Rattle.drv_ip4.specs.declared.work.IpWork.{IpWork}
 use Rattle.drv_ip4.specs.declared.work.IpWork.TheVariants.{Transmit, Receive}
 use Rattle.drv_ip4.specs.declared.work.Sending.{Sending}
 use Rattle.drv_ip4.specs.Works.{cfg_fault, is_transmit}
-use Rattle.drv_ip4.specs.Nets.{Place, address_used, at_or, is_everyones, nowhere}
-use Rattle.drv_ip4.specs.Sendings.{counted, down, draft_of, hop_from, mail, ticket_at, waiting, work_refusal}
+use Rattle.drv_ip4.specs.Lost.{lost_with}
+use Rattle.drv_ip4.specs.Nets.{Place, address_used, nowhere, settled}
+use Rattle.drv_ip4.specs.Hearing.{all_given, hearers}
+use Rattle.drv_ip4.specs.Icmps.{answer_to, heard_of}
+use Rattle.drv_ip4.specs.Sendings.{answer_counted, answered_down, counted, down, draft_of, hop_from, mail, ticket_at, waiting, work_refusal}
 
 -- children with their configurations, tokens, and what is handed down; where the station is; the pools of fragments; and
 -- of the datagram that the last packet made whole, the datagram until it is taken, and what an answer would quote of it
@@ -108,3 +114,25 @@ hop_or_none n (Some own) dest = hop_from n own dest
 abbrev pub mailed : IpState → Option Addr → Option (Proto × Ticket) → Ip4 → ℕ → List ℕ → IpState
 mailed s None waits dest proto payload = s
 mailed s (Some own) waits dest proto payload = handed s (hop_from s.net own dest.0) (mail own.ip waits dest proto payload)
+
+-- another default address, or none
+abbrev pub default_set : IpState → Option Addr → IpState
+default_set s a = in_net (in_drive s (in_tokens s.drive (lost_with s.net.home s.drive.family s.drive.tokens))) (settled s.net a)
+
+-- an answer goes down
+abbrev pub answered : IpState → Option Letter → IpState
+answered s l = in_net (in_drive s (answered_down s.drive s.net l)) (answer_counted s.net l)
+
+-- the oldest receive token of each child that hears the datagram ends with it
+abbrev pub given_down : Drive IpCfg IpWork Sending → Place → IpPacket → Drive IpCfg IpWork Sending
+given_down s n d = in_tokens s (all_given d (hearers n.home d s.family) s.tokens)
+
+-- the datagram is kept; its hearers get it; and an echo request is answered
+abbrev pub heard_by : IpState → Option Heard → IpState
+heard_by s None = with_last s None None
+heard_by s (Some h) = with_last (answered (in_drive s (given_down s.drive s.net h.packet)) (answer_to s.net h.packet)) (Some h.packet) (Some h.quote)
+
+-- a packet was heard: the datagram that exists at it, if there is one, is heard; the one before is forgotten
+abbrev pub packet_heard : IpState → ℕ → Packet → IpState
+packet_heard s now p =
+    heard_by (in_pools s (after_packet bytes_kept s.pools now p)) (option_map heard_of (datagram_at bytes_kept s.pools now p))

@@ -4,7 +4,13 @@ pub mod Works
 pub mod Nets
 -- what is handed down: a datagram to a hop, under the next identification
 pub mod Sendings
+-- answers by ICMP
+pub mod Icmps
 -- which children hear a datagram, and what it does to their tokens
 pub mod Hearing
+-- what the end of a default address does to tokens
+pub mod Lost
+-- how they end, one place after another
+pub mod Losing
 -- the driver as contracts see it, and what its calls answer and leave
 pub mod Ips

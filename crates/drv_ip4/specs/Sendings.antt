@@ -7,6 +7,7 @@ use Rattle.efi_base.specs.declared.tokens.Proto.{Proto}
 use Rattle.efi_base.specs.declared.tokens.Proto.TheVariants.{Ip4 as IpProto}
 use Rattle.efi_base.specs.declared.refuse.Refuse.{Refuse}
 use Rattle.efi_base.specs.declared.refuse.Refuse.TheVariants.{NotStarted, NoMapping, NoRoute}
+use Rattle.efi_base.specs.Addresses.{is_broadcast}
 use Rattle.efi_base.specs.Refusals.{first_of, refuse_if}
 use Rattle.efi_book.specs.Outboxes.{asked}
 use Rattle.efi_book.specs.Cores.{Drive, in_outbox}
@@ -88,3 +89,15 @@ work_refusal_from n (Some own) (Transmit tx) = tx_refusal n own tx
 abbrev pub work_refusal : Place → Option IpCfg → IpWork → Option Refuse
 work_refusal n None work = Some NotStarted
 work_refusal n (Some cfg) work = work_refusal_from n (address_used n.home cfg) work
+
+-- an answer goes down, to all only where its destination is the limited broadcast
+abbrev pub answer_hop : Place → Letter → Option Hop
+answer_hop n l = hop_by n.routes (is_broadcast l.dest.0) l.dest.0
+
+abbrev pub answered_down : Drive IpCfg IpWork Sending → Place → Option Letter → Drive IpCfg IpWork Sending
+answered_down s n None = s
+answered_down s n (Some l) = down s (answer_hop n l) l n.next
+
+abbrev pub answer_counted : Place → Option Letter → Place
+answer_counted n None = n
+answer_counted n (Some l) = counted n (answer_hop n l)

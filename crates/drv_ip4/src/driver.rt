@@ -3,21 +3,29 @@
 ghost use Rattle.std.specs.Prelude.{◌≡◌, ℕ, ◌+◌, ◌≤◌, length, slice_get, None, true, IfOk, IfErr, IfSome, IfNone, OnOk, OnErr, is_some};
 ghost use Rattle.efi_base.specs.Refusals.{AnswersBy, RefusesExactly, first_of};
 ghost use Rattle.efi_base.specs.declared.tokens.Owner.{Owner as OwnerValue};
+ghost use Rattle.efi_book.specs.Aborts.{IsRising};
 ghost use Rattle.efi_book.specs.Books.{Keeps, accept_refusal, given, given_up, owner_aborted, times, without_done, without_up};
 ghost use Rattle.efi_book.specs.Cores.{cfg_of, configured, destroyed, drive_cancel_refusal, drive_cancelled, drive_token_cancelled, drive_token_refusal, id_of, in_outbox, in_tokens, is_busy, made, own_made};
 ghost use Rattle.efi_book.specs.Families.{create_own_refusal, create_refusal, handle_refusal};
 ghost use Rattle.efi_book.specs.Outboxes.{without_first};
 ghost use Rattle.efi_book.specs.Owners.{gained};
 ghost use Rattle.ip_core.specs.Pools.{open_at};
+ghost use Rattle.wire_ip4.specs.Seen.{packet_seen};
 ghost use Rattle.ip_core.specs.Routing.{add_refusal, remove_refusal};
 ghost use Rattle.drv_ip4.specs.declared.work.IpWork.TheVariants.{Transmit};
-ghost use Rattle.drv_ip4.specs.Ips.{datagram_sent, hop_or_none, in_drive, in_net, in_pools, ip_configure_refusal, mailed, new_state, post_refusal, token_posted, tx_posted, with_last};
-ghost use Rattle.drv_ip4.specs.Nets.{at_or, brought_in, with_route, with_stations, without_route};
-ghost use Rattle.drv_ip4.specs.Sendings.{tx_refusal};
+ghost use Rattle.drv_ip4.specs.Ips.{datagram_sent, default_set, given_down, hop_or_none, in_drive, in_net, in_pools, ip_configure_refusal, mailed, new_state, packet_heard, post_refusal, token_posted, tx_posted, with_last};
+ghost use Rattle.drv_ip4.specs.Nets.{at_or, brought_in, settled, with_route, with_stations, without_route};
+ghost use Rattle.drv_ip4.specs.Sendings.{answer_counted, answered_down, tx_refusal};
+ghost use Rattle.drv_ip4.specs.Icmps.{answer_to};
+ghost use Rattle.efi_book.specs.Drives.{drive};
 
-use crate::icmp::Quote;
+use crate::defaults::lose;
+use crate::hearing::give_all;
+use crate::icmp::{Quote, answer_to, take_in};
 use crate::net::{Net, address_used};
-use crate::sending::{IpCore, Letter, hop_from, put_down, transmit, tx_refusal, work_refusal};
+use crate::sending::{
+    IpCore, Letter, hop_from, put_answer, put_down, transmit, tx_refusal, work_refusal,
+};
 use crate::work::{Ip4K, IpCfg, IpTx, IpWork, Sending, cfg_fault, is_transmit};
 use efi_base::{
     Addr, Bytes, ChildId, End, Ip4, IpPacket, NoMemory, Owner, Proto, Refuse, Refused, Tick,
@@ -27,6 +35,7 @@ use efi_book::{Core, Done, Handle, OWN_CHILDREN, Raised};
 use ip_core::{Reasm, Route, Routes};
 use std::alloc::Global;
 use std::marker::Model;
+use wire_ip4::Ip;
 
 /// How many routers a datagram of the station itself may pass, plus one.
 pub(crate) const TTL: u8 = 64;
@@ -286,6 +295,20 @@ impl DrvIp4 {
         put_down(&mut self.core, &mut self.net, hop, l)
     }
 
+    /// Another default address, or none. Where one stood, the pending tokens of the children that use it end as
+    /// `NoMapping`, by rising ticket, also where the new one is the same; the children stay configured. The routes that
+    /// it brought go, and the new one brings the route to its network, unless it is there or there are 64. It takes no
+    /// memory.
+    pub fn set_default(&mut self, a: Option<Addr>)
+        // Tickets rise in every book that calls made.
+        ensures after { IsRising self.old.drive.tokens → self.new ≡ default_set self.old a }
+        ensures rest { self.new ≡ in_net (in_drive self.old (in_tokens self.old.drive self.new.drive.tokens)) (settled self.old.net a) }
+        ensures keeps { Keeps self.old.drive.tokens self.new.drive.tokens }
+    {
+        lose(&self.core.children, &mut self.core.tokens, self.net.home());
+        self.net.settle(a);
+    }
+
     /// The default address.
     pub fn default(&self) -> Option<Addr>
         ensures { result ≡ self.now.net.home }
@@ -331,6 +354,26 @@ impl DrvIp4 {
         ensures { self.new ≡ in_net self.old (with_stations self.old.net a.now) }
     {
         self.net.learn(a);
+    }
+
+    /// A packet was heard (RFC 791, section 3.2). Where a datagram exists at it, `take_packet` gives it, the oldest receive
+    /// token of each child that hears it ends with it, and an echo request to a station address is answered from that
+    /// address. The datagram before is forgotten. After `NoMemory` some of the children may have got it.
+    pub fn on_frame(&mut self, now: Tick, p: &Ip<'_>) -> Result<(), NoMemory>
+        ensures ok { OnOk result (self.new ≡ packet_heard self.old now.0 (packet_seen p.now)) }
+        ensures keeps { Keeps self.old.drive.tokens self.new.drive.tokens }
+    {
+        self.packet = None;
+        self.quote = None;
+        let heard = match take_in(&mut self.reasm, self.alloc, now, p) {
+            Ok(Some(heard)) => heard,
+            Ok(None) => return Ok(()),
+            Err(e) => return Err(e),
+        };
+        give_and_answer(&mut self.core, &mut self.net, self.alloc, &heard.packet)?;
+        self.packet = Some(heard.packet);
+        self.quote = Some(heard.quote);
+        Ok(())
     }
 
     /// The datagram that the last packet made whole, once. It takes no memory.
@@ -385,5 +428,23 @@ fn from_or(from: Option<Addr>, home: Option<Addr>) -> Option<Addr>
     match from {
         Some(own) => Some(own),
         None => home,
+    }
+}
+
+/// The children that hear the datagram get it, and it is answered.
+fn give_and_answer(
+    core: &mut IpCore,
+    net: &mut Net,
+    alloc: Global,
+    d: &IpPacket,
+) -> Result<(), NoMemory>
+    ensures drive { OnOk result (drive core.new ≡ answered_down (given_down (drive core.old) net.old d.now) net.old (answer_to net.old d.now)) }
+    ensures net { OnOk result (net.new ≡ answer_counted net.old (answer_to net.old d.now)) }
+    ensures keeps { Keeps (drive core.old).tokens (drive core.new).tokens }
+{
+    give_all(&core.children, &mut core.tokens, alloc, net.home(), d)?;
+    match answer_to(net, alloc, d) {
+        Ok(l) => put_answer(core, net, l),
+        Err(e) => Err(e),
     }
 }

@@ -2,6 +2,8 @@
 //! next hop's Ethernet address is found, how a datagram is cut into packets, and frames aren't here.
 #![tactic(auto)]
 
+// the end of tokens that rest on a default address
+mod defaults;
 // the driver and its calls
 mod driver;
 // which children hear a datagram

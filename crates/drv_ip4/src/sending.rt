@@ -7,11 +7,11 @@ ghost use Rattle.efi_book.specs.Cores.{post_refusal as core_post_refusal, posted
 ghost use Rattle.efi_book.specs.Drives.{drive};
 ghost use Rattle.efi_book.specs.Owners.{gained};
 ghost use Rattle.drv_ip4.specs.declared.work.IpWork.TheVariants.{Transmit};
-ghost use Rattle.drv_ip4.specs.Sendings.{counted, down, draft_of, hop_from, sending_of, ticket_at, tx_refusal, waiting, work_refusal};
+ghost use Rattle.drv_ip4.specs.Sendings.{answer_counted, answered_down, counted, down, draft_of, hop_from, sending_of, ticket_at, tx_refusal, waiting, work_refusal};
 
 use crate::net::{Net, address_used, is_everyones};
 use crate::work::{Hop, Ip4K, IpCfg, IpTx, IpWork, Sending, tx_fault};
-use efi_base::{Addr, Bytes, Ip4, NoMemory, Owner, Proto, Refuse, Refused, Ticket};
+use efi_base::{Addr, Bytes, Ip4, NoMemory, Owner, Proto, Refuse, Refused, Ticket, is_broadcast};
 use efi_book::{Core, Handle};
 use std::alloc::Global;
 
@@ -56,6 +56,7 @@ pub(crate) fn put_down(
 ) -> Result<bool, NoMemory>
     ensures ok { IfOk result (λ b. (b ≡ is_some hop) × (drive core.new ≡ down (drive core.old) hop l net.old.next) × (net.new ≡ counted net.old hop)) }
     ensures err { OnErr result ((drive core.new ≡ drive core.old) × (net.new ≡ net.old)) }
+    ensures keeps { (drive core.new).tokens ≡ (drive core.old).tokens }
 {
     let Some(hop) = hop else {
         return Ok(false);
@@ -212,4 +213,25 @@ fn hop_to(net: &Net, own: Addr, tx: &IpTx) -> Hop
     ensures { hop_from net.now own tx.now.dest.0 ≡ Some result }
 {
     hop_from(net, own, tx.dest).unwrap()
+}
+
+/// Puts an answer behind the others where there is one; it is dropped where no route matches.
+pub(crate) fn put_answer(
+    core: &mut IpCore,
+    net: &mut Net,
+    l: Option<Letter>,
+) -> Result<(), NoMemory>
+    ensures drive { OnOk result (drive core.new ≡ answered_down (drive core.old) net.old l) }
+    ensures net { OnOk result (net.new ≡ answer_counted net.old l) }
+    ensures err { OnErr result ((drive core.new ≡ drive core.old) × (net.new ≡ net.old)) }
+    ensures keeps { (drive core.new).tokens ≡ (drive core.old).tokens }
+{
+    let Some(l) = l else {
+        return Ok(());
+    };
+    let hop = net.hop(is_broadcast(l.dest), l.dest);
+    match put_down(core, net, hop, l) {
+        Ok(_) => Ok(()),
+        Err(e) => Err(e),
+    }
 }

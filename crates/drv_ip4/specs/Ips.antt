@@ -1,5 +1,5 @@
 -- The driver as contracts see it, and what its calls answer and leave.
-use Rattle.std.specs.Prelude.{ℕ, List, [], Option, Some, None, Bool, false, is_some, not, if◌then◌else◌}
+use Rattle.std.specs.Prelude.{ℕ, List, [], Option, Some, None, Bool, not, if◌then◌else◌}
 use Rattle.efi_base.specs.declared.plain.Addr.{Addr}
 use Rattle.efi_base.specs.declared.plain.Ip4.{Ip4}
 use Rattle.efi_base.specs.declared.tokens.Ticket.{Ticket}
@@ -29,7 +29,7 @@ use Rattle.drv_ip4.specs.Works.{cfg_fault, is_transmit}
 use Rattle.drv_ip4.specs.Lost.{lost_with}
 use Rattle.drv_ip4.specs.Nets.{Place, address_used, nowhere, settled}
 use Rattle.drv_ip4.specs.Hearing.{all_given, hearers}
-use Rattle.drv_ip4.specs.Icmps.{answer_to, heard_of}
+use Rattle.drv_ip4.specs.Icmps.{answer_to, heard_of, unreachable_to}
 use Rattle.drv_ip4.specs.Sendings.{answer_counted, answered_down, counted, down, draft_of, hop_from, mail, ticket_at, waiting, work_refusal}
 
 -- children with their configurations, tokens, and what is handed down; where the station is; the pools of fragments; and
@@ -136,3 +136,7 @@ heard_by s (Some h) = with_last (answered (in_drive s (given_down s.drive s.net 
 abbrev pub packet_heard : IpState → ℕ → Packet → IpState
 packet_heard s now p =
     heard_by (in_pools s (after_packet bytes_kept s.pools now p)) (option_map heard_of (datagram_at bytes_kept s.pools now p))
+
+-- the source of the datagram that was heard last is told that its port takes no datagram
+abbrev pub told_unreachable : IpState → IpState
+told_unreachable s = answered s (unreachable_to s.net s.quote)

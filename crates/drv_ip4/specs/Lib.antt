@@ -14,3 +14,5 @@ pub mod Lost
 pub mod Losing
 -- the driver as contracts see it, and what its calls answer and leave
 pub mod Ips
+-- what a packet leaves as it was
+pub mod Others

@@ -1,5 +1,5 @@
 -- What the end of a default address does to tokens: those of the children that use it end.
-use Rattle.std.specs.Prelude.{ℕ, Bool, false, not, ◌&&◌, ◌||◌, ◌==◌, is_none, List, [], ◌∷◌, ◌++◌, filter, Option, Some, None}
+use Rattle.std.specs.Prelude.{Bool, false, not, ◌&&◌, ◌||◌, ◌==◌, is_none, List, [], ◌∷◌, ◌++◌, filter, Option, Some, None}
 use Rattle.std.specs.List.{list_any}
 use Rattle.efi_base.specs.declared.tokens.ChildId.{ChildId}
 use Rattle.efi_base.specs.declared.tokens.End.TheVariants.{NoMapping}

@@ -13,7 +13,7 @@ ghost use Rattle.ip_core.specs.Pools.{open_at};
 ghost use Rattle.wire_ip4.specs.Seen.{packet_seen};
 ghost use Rattle.ip_core.specs.Routing.{add_refusal, remove_refusal};
 ghost use Rattle.drv_ip4.specs.declared.work.IpWork.TheVariants.{Transmit};
-ghost use Rattle.drv_ip4.specs.Ips.{datagram_sent, default_set, given_down, hop_or_none, in_drive, in_net, in_pools, ip_configure_refusal, mailed, new_state, packet_heard, post_refusal, token_posted, tx_posted, with_last};
+ghost use Rattle.drv_ip4.specs.Ips.{datagram_sent, default_set, given_down, hop_or_none, in_drive, in_net, in_pools, ip_configure_refusal, mailed, new_state, packet_heard, post_refusal, token_posted, told_unreachable, tx_posted, with_last};
 ghost use Rattle.drv_ip4.specs.Nets.{at_or, brought_in, settled, with_route, with_stations, without_route};
 ghost use Rattle.drv_ip4.specs.Sendings.{answer_counted, answered_down, tx_refusal};
 ghost use Rattle.drv_ip4.specs.Icmps.{answer_to};
@@ -21,10 +21,10 @@ ghost use Rattle.efi_book.specs.Drives.{drive};
 
 use crate::defaults::lose;
 use crate::hearing::give_all;
-use crate::icmp::{Quote, answer_to, take_in};
+use crate::icmp::{Quote, answer_to, take_in, unreachable_to};
 use crate::net::{Net, address_used};
 use crate::sending::{
-    IpCore, Letter, hop_from, put_answer, put_down, transmit, tx_refusal, work_refusal,
+    IpCore, Letter, TTL, hop_from, put_answer, put_down, transmit, tx_refusal, work_refusal,
 };
 use crate::work::{Ip4K, IpCfg, IpTx, IpWork, Sending, cfg_fault, is_transmit};
 use efi_base::{
@@ -36,9 +36,6 @@ use ip_core::{Reasm, Route, Routes};
 use std::alloc::Global;
 use std::marker::Model;
 use wire_ip4::Ip;
-
-/// How many routers a datagram of the station itself may pass, plus one.
-pub(crate) const TTL: u8 = 64;
 
 /// IP4 of the station.
 #[derive(Drop)]
@@ -97,7 +94,7 @@ impl DrvIp4 {
     }
 
     /// The child is gone, and its pending tokens end as aborted. It takes no memory. A datagram that one of them
-    /// handed down still goes, but waits for no hop.
+    /// handed down is none of this driver's any more.
     pub fn destroy(&mut self, h: Handle<Ip4K>) -> Result<(), Refuse>
         ensures answer { RefusesExactly (handle_refusal self.old.drive.family h.key h.serial) result }
         ensures ok { IfOk result (λ _. self.new ≡ in_drive self.old (destroyed self.old.drive h.key h.serial)) }
@@ -374,6 +371,20 @@ impl DrvIp4 {
         self.packet = Some(heard.packet);
         self.quote = Some(heard.quote);
         Ok(())
+    }
+
+    /// Tells the source of the datagram that was heard last, where that went to a station address, that its port takes no
+    /// datagram (RFC 792): from that address, with the datagram's header, written anew, and the first eight octets of its
+    /// payload. It is dropped where no route matches.
+    pub fn unreachable(&mut self) -> Result<(), NoMemory>
+        ensures ok { OnOk result (self.new ≡ told_unreachable self.old) }
+        ensures err { OnErr result (self.new ≡ self.old) }
+        ensures keeps { Keeps self.old.drive.tokens self.new.drive.tokens }
+    {
+        match unreachable_to(&self.net, self.alloc, &self.quote) {
+            Ok(l) => put_answer(&mut self.core, &mut self.net, l),
+            Err(e) => Err(e),
+        }
     }
 
     /// The datagram that the last packet made whole, once. It takes no memory.

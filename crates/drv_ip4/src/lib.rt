@@ -10,6 +10,8 @@ mod driver;
 mod hearing;
 // answers by ICMP
 mod icmp;
+// what holds of what a packet does
+mod laws;
 // addresses and routes
 mod net;
 // what is handed down
@@ -18,4 +20,5 @@ mod sending;
 mod work;
 
 pub use driver::DrvIp4;
+pub use laws::a_packet_ends_receives_of_its_hearers_alone;
 pub use work::{Hop, Ip4K, IpCfg, IpTx, IpWork, Sending};

@@ -18,6 +18,9 @@ use std::alloc::Global;
 /// What the driver is made of.
 pub(crate) type IpCore = Core<Ip4K, IpCfg, IpWork, Sending>;
 
+/// How many routers a datagram of the station itself may pass, plus one.
+pub(crate) const TTL: u8 = 64;
+
 /// A datagram before it is known to whom it goes.
 #[derive(Drop)]
 pub(crate) struct Letter {

@@ -1,4 +1,4 @@
-use Rattle.std.proofs.Common.{◌≡◌, ◌+◌, drop, ap, ◌∙◌}
+use Rattle.std.proofs.Common.{◌+◌, drop, ap, ◌∙◌}
 use Rattle.drv_ip4.specs.Nets.{all_without}
 use Rattle.drv_ip4.proofs.Removing.{one-gone}
 use Rattle.drv_ip4.proofs.net.remove_all.Goals as goal

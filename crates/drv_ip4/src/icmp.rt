@@ -11,8 +11,7 @@ ghost use Rattle.drv_ip4.specs.Sendings.{mail};
 ghost use Rattle.wire_ip4.specs.Packet.{packet_text};
 
 use crate::net::Net;
-use crate::sending::{Letter, TTL};
-use crate::work::MOST_PAYLOAD;
+use crate::sending::{Letter, MOST_PAYLOAD, TTL};
 use efi_base::{Bytes, Ip4, IpPacket, NoMemory, Tick};
 use ip_core::{Reasm, Whole};
 use std::alloc::Global;

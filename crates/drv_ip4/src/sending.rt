@@ -7,16 +7,26 @@ ghost use Rattle.efi_book.specs.Cores.{post_refusal as core_post_refusal, posted
 ghost use Rattle.efi_book.specs.Drives.{drive};
 ghost use Rattle.efi_book.specs.Owners.{gained};
 ghost use Rattle.drv_ip4.specs.declared.work.IpWork.TheVariants.{Transmit};
+ghost use Rattle.drv_ip4.specs.Works.{tx_fault};
 ghost use Rattle.drv_ip4.specs.Sendings.{answer_counted, answered_down, counted, down, draft_of, hop_from, sending_of, ticket_at, tx_refusal, waiting, work_refusal};
 
 use crate::net::{Net, address_used, is_everyones};
-use crate::work::{Hop, Ip4K, IpCfg, IpTx, IpWork, Sending, tx_fault};
-use efi_base::{Addr, Bytes, Ip4, NoMemory, Owner, Proto, Refuse, Refused, Ticket, is_broadcast};
+use crate::work::{Hop, Ip4K, IpCfg, IpTx, IpWork, Sending};
+use efi_base::{
+    Addr, Bytes, Field, Ip4, NoMemory, Owner, Proto, Refuse, Refused, Ticket, is_broadcast,
+    is_unicast,
+};
 use efi_book::{Core, Handle};
 use std::alloc::Global;
 
 /// What the driver is made of.
 pub(crate) type IpCore = Core<Ip4K, IpCfg, IpWork, Sending>;
+
+/// The octets of the longest payload: 65,535 less the 20 of the header.
+pub(crate) const MOST_PAYLOAD: usize = 65_515;
+
+/// The octets of the longest payload that goes in one packet: 1,500 less the 20 of the header.
+const MOST_WHOLE: usize = 1_480;
 
 /// How many routers a datagram of the station itself may pass, plus one.
 pub(crate) const TTL: u8 = 64;
@@ -78,6 +88,22 @@ pub(crate) fn hop_from(net: &Net, own: Addr, dest: Ip4) -> Option<Hop>
     ensures { result ≡ hop_from net.now own dest.0 }
 {
     net.hop(is_everyones(own, dest), dest)
+}
+
+/// What is wrong with a datagram to send, whatever the addresses and routes.
+fn tx_fault(tx: &IpTx) -> Option<Refuse>
+    ensures { result ≡ tx_fault tx.now }
+{
+    if tx.payload.len() > MOST_PAYLOAD {
+        return Some(Refuse::BadConfig(Field::Length));
+    }
+    if tx.df && tx.payload.len() > MOST_WHOLE {
+        return Some(Refuse::BadConfig(Field::Length));
+    }
+    if is_unicast(tx.dest) || is_broadcast(tx.dest) {
+        return None;
+    }
+    Some(Refuse::BadConfig(Field::Address))
 }
 
 /// Why a datagram isn't sent from this address.

@@ -1,10 +1,8 @@
 //! What children are configured with, what they ask for, and what is handed down. Who does it isn't here.
 ghost use Rattle.std.specs.Prelude.{◌≡◌, option_copied};
-ghost use Rattle.drv_ip4.specs.Works.{kind_of, tx_fault, is_transmit, cfg_fault};
+ghost use Rattle.drv_ip4.specs.Works.{kind_of, is_transmit, cfg_fault};
 
-use efi_base::{
-    Addr, Bytes, Field, Ip4, IpPacket, Proto, Refuse, Ticket, is_broadcast, is_mask, is_unicast,
-};
+use efi_base::{Addr, Bytes, Field, Ip4, IpPacket, Proto, Refuse, Ticket, is_mask, is_unicast};
 use efi_book::Kinded;
 
 /// The kind of handles of this protocol.
@@ -70,12 +68,6 @@ pub struct Sending {
     pub payload: Bytes,
 }
 
-/// The octets of the longest payload: 65,535 less the 20 of the header.
-pub(crate) const MOST_PAYLOAD: usize = 65_515;
-
-/// The octets of the longest payload that goes in one packet: 1,500 less the 20 of the header.
-pub(crate) const MOST_WHOLE: usize = 1_480;
-
 /// The kinds of works.
 pub(crate) const TRANSMIT: u32 = 1;
 
@@ -92,22 +84,6 @@ impl Kinded for IpWork {
             IpWork::Receive(_) => RECEIVE,
         }
     }
-}
-
-/// What is wrong with a datagram to send, whatever the addresses and routes.
-pub(crate) fn tx_fault(tx: &IpTx) -> Option<Refuse>
-    ensures { result ≡ tx_fault tx.now }
-{
-    if tx.payload.len() > MOST_PAYLOAD {
-        return Some(Refuse::BadConfig(Field::Length));
-    }
-    if tx.df && tx.payload.len() > MOST_WHOLE {
-        return Some(Refuse::BadConfig(Field::Length));
-    }
-    if is_unicast(tx.dest) || is_broadcast(tx.dest) {
-        return None;
-    }
-    Some(Refuse::BadConfig(Field::Address))
 }
 
 /// What is wrong with a configuration. Only a child of the stack's own may have the address 0.0.0.0.

@@ -1,6 +1,6 @@
 //! Routes of IPv4, and the next hop of a destination (RFC 1812, section 5.2.4.3). Nothing here knows how a hop is
 //! reached.
-ghost use Rattle.std.specs.Prelude.{◌≡◌, [], ◌∷◌, ◌++◌, OnOk, OnErr, option_map};
+ghost use Rattle.std.specs.Prelude.{◌≡◌, ◌≤◌, [], ◌∷◌, ◌++◌, length, OnOk, OnErr, option_map};
 ghost use Rattle.efi_base.specs.Refusals.{RefusesExactly};
 ghost use Rattle.ip_core.specs.Routing.{is_good, is_same, route_place, add_refusal, remove_refusal, without, matches, is_longer, best_of, next_hop, FindsBest};
 
@@ -60,6 +60,15 @@ impl Routes {
         }
     }
 
+    /// The same routes once more.
+    pub fn copied(&self) -> Routes
+        ensures { result ≡ self.now }
+    {
+        Routes {
+            routes: kept(self.routes.as_slice()),
+        }
+    }
+
     /// Adds a route behind the others. It is refused where it is there already, where its mask isn't ones and then
     /// zeros or its destination has bits outside it, and where 64 routes are there.
     pub fn add(&mut self, r: Route) -> Result<(), Refuse>
@@ -101,6 +110,17 @@ impl Routes {
             Some(r) => Some(hop_by(r, dest)),
             None => None,
         }
+    }
+}
+
+fn kept(routes: &[Route]) -> ArrayVec<Route, ROUTES>
+    requires { length routes.now ≤ ROUTES }
+    ensures { result.items ≡ routes.now }
+{
+    let mut room = ArrayVec::new();
+    match room.try_extend_from_slice(routes) {
+        Ok(()) => room,
+        Err(_) => unreachable!(),
     }
 }
 

@@ -1,0 +1,18 @@
+use Rattle.std.proofs.Common.{◌∙◌}
+use Rattle.efi_base.specs.declared.tokens.End.TheVariants.{NoMapping}
+use Rattle.drv_udp4.specs.Udps.{uses_home}
+use Rattle.efi_book.specs.Books.{ticket_of}
+use Rattle.efi_book.specs.Firsts.{first_by}
+use Rattle.drv_udp4.proofs.Ends.{found, round_more, round_rest}
+use Rattle.drv_udp4.proofs.waiting.end_homeless.Goals as goal
+
+pub returns-in_default-clause-after : goal.returns-in_default-clause-after
+returns-in_default-clause-after c =
+    round_rest (uses_home c.args.children.now) NoMapping c.loop-left.left c.loop-left.tokens _ (found (λ ps. ticket_of (first_by (uses_home c.args.children.now) ps)) c.pending.ensures c.first_homeless.ensures c.in_default.is) c.loop-left.invariant.whole
+
+pub loop-left-preserved : goal.loop-left-preserved
+loop-left-preserved c = record {
+  whole = round_more (uses_home c.args.children.now) NoMapping c.loop-left.left c.loop-left.tokens _ _ c.in-Some.t c.loop-left-test.true (found (λ ps. ticket_of (first_by (uses_home c.args.children.now) ps)) c.pending.ensures c.first_homeless.ensures c.in-Some.is)
+      c.complete.ensures.after c.loop-left.invariant.whole;
+  keeps = λ o. c.complete.ensures.keeps o ∙ c.loop-left.invariant.keeps o;
+}

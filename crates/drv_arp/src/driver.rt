@@ -343,6 +343,13 @@ impl DrvArp {
         Ok(())
     }
 
+    /// The last moment that came.
+    pub fn moment(&self) -> Tick
+        ensures { result ≡ self.now.moment }
+    {
+        self.moment
+    }
+
     /// The first moment to come at which a request goes again or a token ends.
     pub fn next(&self) -> Option<Tick>
         ensures { option_map (λ t. t.0) result ≡ next_of self.now }

@@ -39,6 +39,13 @@ impl Stack {
         self.arp.tick(now)
     }
 
+    /// The last moment that came.
+    pub fn moment(&self) -> Tick
+        ensures { result.0 ≡ moment_of self.now }
+    {
+        self.arp.moment()
+    }
+
     /// The least moment to come at which something is due.
     pub fn next_deadline(&self) -> Option<Tick>
         ensures { option_map (λ t. t.0) result ≡ next_of self.now.arp }

@@ -1,8 +1,6 @@
 -- What is known of an input that was read in pieces.
-use Rattle.std.proofs.Common.{◌≡◌, ◌⊎◌, ℕ, ◌+◌, ◌≤◌, List, [], ◌∷◌, ◌++◌, length, Option, Some, None, IfSome, IfOk, OnOk, Result, Ok, Err, inl, inr, refl, sym, subst, ap, ◌∙◌, arith, length-append}
+use Rattle.std.proofs.Common.{◌≡◌, ◌⊎◌, ℕ, List, [], ◌++◌, Some, None, OnOk, Result, Ok, Err, inl, inr, sym, subst, ap, ◌∙◌}
 use Rattle.std.proofs.lemmas.List.{append-nil}
-use Rattle.std.proofs.KnownBytes.{Consumes-nil, Consumes-trans}
-use Rattle.std.specs.Io.KnownBytes.{Consumes, IsAtEnd, Keeps}
 use Rattle.efi_base.specs.declared.plain.Record.{Record}
 use Rattle.wire_pcap.specs.Grammar.{IsCapture}
 use Rattle.wire_pcap.specs.Reading.{Reading, HasRead, HasStopped, IsNewFault, IsUnfinished, IsWhole}
@@ -14,13 +12,8 @@ use Rattle.wire_pcap.specs.Place.{IsThePlace}
 use Rattle.efi_base.specs.declared.fault.NoMemory.{NoMemory}
 use Rattle.wire_pcap.specs.declared.fault.CapFault.{CapFault}
 use Rattle.wire_pcap.specs.declared.fault.CapFault.TheVariants.{BadAt, OutOfResources}
-use Rattle.efi_outside.specs.Intake.{TakesAtMost}
-use Rattle.efi_outside.specs.declared.intake.InputFault.{InputFault}
 use Rattle.boot_top.specs.Extract.{IsRefused}
-use Rattle.boot_top.specs.Watched.{IsWatched}
-use Rattle.boot_top.specs.declared.watching.Watched.{Watched}
 use Rattle.boot_top.specs.Streaming.{HearsAll, IsStopped}
-use Rattle.boot_top.specs.declared.watching.Watching.{Watching}
 
 -- a fault that was told of these octets
 pub refused-at-once : (octets : List ℕ) (n : ℕ) → IsNewFault octets (BadAt n) → IsRefused octets n

@@ -1,5 +1,5 @@
--- what a command that only checks its text answers is what a command answers
-pub mod Checks
+-- what a command that follows a text answers is what a command answers
+pub mod Followed
 -- what a verdict rules out
 pub mod Exact
 -- an input that was read in pieces

@@ -1,6 +1,6 @@
 -- What `extract` answers is what a command answers.
-use Rattle.std.proofs.Common.{rules, ◌≡◌, ◌≢◌, ◌⊎◌, ◌+◌, ◌<◌, ℕ, Bool, true, List, [], length, Option, Some, None, IfSome, inl, inr, refl, sym, subst, ap, ◌∙◌}
-use Rattle.std.proofs.KnownBytes.{Appends-nil, Consumes-nil}
+use Rattle.std.proofs.Common.{◌≡◌, ◌≢◌, ◌⊎◌, ◌+◌, ◌<◌, ℕ, Bool, true, List, [], length, Option, Some, None, IfSome, inl, inr, refl, sym, subst, ap, ◌∙◌}
+use Rattle.std.proofs.KnownBytes.{Appends-nil}
 use Rattle.std.specs.Io.KnownBytes.{Appends, IsAtEnd}
 use Rattle.efi_outside.specs.Causes.{Rose}
 use Rattle.efi_outside.specs.Intake.{TakesAtMost, input_limit}
@@ -8,7 +8,7 @@ use Rattle.boot_words.specs.declared.task.Emit.{Emit}
 use Rattle.boot_words.specs.declared.task.Emit.TheVariants.{Report, Image}
 use Rattle.boot_words.specs.declared.task.ExtractTask.{ExtractTask}
 use Rattle.boot_words.specs.declared.task.Task.{Task}
-use Rattle.boot_words.specs.declared.task.Task.TheVariants.{Extract, Script, Replay, Boot, Tftp, Make}
+use Rattle.boot_words.specs.declared.task.Task.TheVariants.{Extract}
 use Rattle.boot_top.specs.Commands.{AskFor, AskToExtract, Answers}
 use Rattle.boot_top.specs.Extract.{Succeeded, EndedOtherwise, IsExtracted, IsRefusal, DecidesExtract, extracting, is_image}
 use Rattle.efi_feed.specs.Pieces.{TakesExactly}

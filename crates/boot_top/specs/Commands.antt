@@ -7,9 +7,9 @@ use Rattle.boot_words.specs.declared.task.Task.TheVariants.{Extract, Script, Rep
 use Rattle.boot_top.specs.Extract.{extracting}
 use Rattle.boot_top.specs.Parties.{Party, IsUntouched}
 use Rattle.boot_top.specs.Running.{Runs}
-use Rattle.boot_top.specs.Texts.{checking}
+use Rattle.boot_top.specs.Scripts.{scripting}
+use Rattle.boot_top.specs.Texts.{IsEight, IsUnbuilt, following}
 use Rattle.session_text.specs.Sessions.{session_of}
-use Rattle.script_text.specs.Scripts.{script_of}
 
 -- the words are a command line, and ask for this
 abbrev pub AskFor : List (List ℕ) → Task → Type 0
@@ -26,12 +26,12 @@ pub record IsNotBuilt {S K P : Type 0} (src : Party S) (out : Party K) (cap : Pa
   pub output : IsUntouched out
   pub capture : IsUntouched cap
 
--- what is answered to a task, with what is read and written, command by command; of `script`, `boot` and `tftp` the text is
--- read and checked, and no more
+-- what is answered to a task, with what is read and written, command by command; of `boot` and `tftp` the document is read, and
+-- no more
 abbrev pub Answers : {S K P : Type 0} → Task → Party S → Party K → Party P → ℕ → Type 0
 Answers (Extract t) src out cap status = Runs (extracting t) src out cap status
-Answers Script src out cap status = Runs (checking script_of) src out cap status
+Answers Script src out cap status = Runs scripting src out cap status
 Answers (Replay t) src out cap status = IsNotBuilt src out cap status
-Answers (Boot emit) src out cap status = Runs (checking session_of) src out cap status
-Answers (Tftp emit) src out cap status = Runs (checking session_of) src out cap status
+Answers (Boot emit) src out cap status = Runs (following session_of IsUnbuilt IsEight) src out cap status
+Answers (Tftp emit) src out cap status = Runs (following session_of IsUnbuilt IsEight) src out cap status
 Answers (Make t) src out cap status = IsNotBuilt src out cap status

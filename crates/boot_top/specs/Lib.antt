@@ -6,8 +6,10 @@ pub mod Running
 pub mod Parties
 -- the command `extract`
 pub mod Extract
--- commands whose text is read and checked, and no more
+-- a command that follows a text
 pub mod Texts
+-- the command `script`
+pub mod Scripts
 -- the report of `extract`
 pub mod Reports
 -- a capture on whose connection the peer speaks one stream

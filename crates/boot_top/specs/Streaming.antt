@@ -5,13 +5,13 @@ use Rattle.wire_pcap.specs.Reading.{Reading, HasRead, HasStopped}
 use Rattle.wire_pcap.specs.declared.fault.CapFault.TheVariants.{BadAt}
 use Rattle.session_text.specs.Reading.{HasRead as HasReadDocument}
 use Rattle.session_text.specs.Sessions.{session_of}
-use Rattle.script_text.specs.Reading.{HasRead as HasReadScript}
+use Rattle.script_text.specs.Reading.{HasRead as HasReadSteps}
 use Rattle.script_text.specs.Scripts.{script_of}
 use Rattle.tap_core.specs.declared.tapping.Tap.{Tap}
 use Rattle.tap_core.specs.Tapping.{HasHeard}
 use Rattle.boot_top.specs.Texts.{IsRefusedAlready}
 use Rattle.boot_top.specs.declared.document.DocumentCheck.{DocumentCheck}
-use Rattle.boot_top.specs.declared.script.ScriptCheck.{ScriptCheck}
+use Rattle.boot_top.specs.declared.script.ScriptRun.{ScriptRun}
 use Rattle.boot_top.specs.declared.watching.Watching.{Watching}
 
 -- the reader was fed these octets, and the tap heard all records that are in them
@@ -31,8 +31,8 @@ abbrev pub HasWatched : ℕ → List ℕ → Watching → Type 0
 HasWatched most fed w = HearsAll most fed w.reader w.tap ⊎ IsStopped fed w.reader
 
 -- these octets were fed, and read as far as they go on to a document, or to a script
-abbrev pub HasCheckedSession : List ℕ → DocumentCheck → Type 0
-HasCheckedSession fed check = HasReadDocument fed check.reader ⊎ IsRefusedAlready session_of fed check.reader.fault
+abbrev pub HasReadSession : List ℕ → DocumentCheck → Type 0
+HasReadSession fed check = HasReadDocument fed check.reader ⊎ IsRefusedAlready session_of fed check.reader.fault
 
-abbrev pub HasCheckedScript : List ℕ → ScriptCheck → Type 0
-HasCheckedScript fed check = HasReadScript fed check.reader ⊎ IsRefusedAlready script_of fed check.reader.fault
+abbrev pub HasReadScript : List ℕ → ScriptRun → Type 0
+HasReadScript fed run = HasReadSteps fed run.reader ⊎ IsRefusedAlready script_of fed run.reader.fault

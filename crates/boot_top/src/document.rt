@@ -1,10 +1,10 @@
-//! A session document that is only checked.
+//! A session document that is read, and isn't followed yet.
 ghost use Rattle.std.specs.Prelude.{◌≡◌, ℕ, List, [], ◌++◌, IfOk, OnOk};
 ghost use Rattle.session_text.specs.Sessions.{session_of};
-ghost use Rattle.boot_top.specs.Streaming.{HasCheckedSession};
-ghost use Rattle.boot_top.specs.Texts.{IsChecked};
+ghost use Rattle.boot_top.specs.Streaming.{HasReadSession};
+ghost use Rattle.boot_top.specs.Texts.{IsTold, IsUnbuilt};
 
-use crate::checking::Checked;
+use crate::following::{Told, refused};
 use efi_base::NoMemory;
 use efi_feed::Feed;
 use session_text::SessionReader;
@@ -20,7 +20,7 @@ pub struct DocumentCheck {
 impl DocumentCheck {
     /// Nothing was fed yet.
     pub fn new(alloc: Global) -> DocumentCheck
-        ensures { HasCheckedSession [] result }
+        ensures { HasReadSession [] result }
     {
         DocumentCheck {
             reader: SessionReader::new(alloc),
@@ -31,11 +31,11 @@ impl DocumentCheck {
 impl Feed for DocumentCheck {
     type About = ();
 
-    type Whole = Checked;
+    type Whole = Told;
 
-    ghost has_fed = { λ _ fed check. HasCheckedSession fed check };
+    ghost has_fed = { λ _ fed check. HasReadSession fed check };
 
-    ghost is_whole = { λ _ fed checked. IsChecked (session_of fed) checked };
+    ghost is_whole = { λ _ fed told. IsTold IsUnbuilt (session_of fed) told };
 
     // Octets behind the first bad line aren't looked at.
     fn feed(&mut self, piece: &[u8]) -> Result<(), NoMemory> {
@@ -46,12 +46,11 @@ impl Feed for DocumentCheck {
         }
     }
 
-    fn finish(self) -> Result<Checked, NoMemory> {
+    fn finish(self) -> Result<Told, NoMemory> {
         let DocumentCheck { reader } = self;
         match reader.finish() {
-            Ok(_meaning) => Ok(Checked::Good),
-            Err(TextFault::BadAt(place)) => Ok(Checked::BadAt(place)),
-            Err(TextFault::OutOfResources) => Err(NoMemory),
+            Ok(_session) => Ok(Told::NotBuilt),
+            Err(fault) => refused(fault),
         }
     }
 }

@@ -1,17 +1,17 @@
-//! The program's work: its command line, and the image that a capture of a download shows.
+//! The program's work: its command line, the image that a capture of a download shows, and the trace of a script.
 #![tactic(auto)]
 
 // a capture, read to its end
 mod capture;
-// a text, read to its end and checked
-mod checking;
-// a session document that is checked
+// a session document, which is read
 mod document;
 // the command that takes the image out of a capture
 mod extract;
+// a text, read to its end and followed
+mod following;
 // the report of what a capture shows
 mod report;
-// a script that is checked
+// a script, which is run
 mod script;
 // the exit statuses
 mod status;

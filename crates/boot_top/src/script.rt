@@ -1,41 +1,45 @@
-//! A script that is only checked.
-ghost use Rattle.std.specs.Prelude.{◌≡◌, ℕ, List, [], ◌++◌, IfOk, OnOk};
+//! A script that is followed: it is run where the stack has all that it asks for. The run itself isn't here.
+ghost use Rattle.std.specs.Prelude.{◌≡◌, ℕ, List, [], ◌++◌, Ok, IfOk, OnOk};
 ghost use Rattle.script_text.specs.Scripts.{script_of};
-ghost use Rattle.boot_top.specs.Streaming.{HasCheckedScript};
-ghost use Rattle.boot_top.specs.Texts.{IsChecked};
+ghost use Rattle.boot_top.specs.Scripts.{SaysTrace};
+ghost use Rattle.boot_top.specs.Streaming.{HasReadScript};
+ghost use Rattle.boot_top.specs.Texts.{IsTold};
 
-use crate::checking::Checked;
+use crate::following::{Told, refused};
 use efi_base::NoMemory;
 use efi_feed::Feed;
-use script_text::ScriptReader;
+use script_run::{are_built, run_script};
+use script_text::{Script, ScriptReader};
 use std::alloc::Global;
 use text_base::TextFault;
 
-/// How far a script was read.
+/// How far a script was read, and memory for its run.
 #[derive(Drop)]
-pub struct ScriptCheck {
+pub struct ScriptRun {
     reader: ScriptReader,
+    alloc: Global,
 }
 
-impl ScriptCheck {
+impl ScriptRun {
     /// Nothing was fed yet.
-    pub fn new(alloc: Global) -> ScriptCheck
-        ensures { HasCheckedScript [] result }
+    pub fn new(alloc: Global) -> ScriptRun
+        ensures { HasReadScript [] result }
     {
-        ScriptCheck {
+        ScriptRun {
             reader: ScriptReader::new(alloc),
+            alloc,
         }
     }
 }
 
-impl Feed for ScriptCheck {
+impl Feed for ScriptRun {
     type About = ();
 
-    type Whole = Checked;
+    type Whole = Told;
 
-    ghost has_fed = { λ _ fed check. HasCheckedScript fed check };
+    ghost has_fed = { λ _ fed run. HasReadScript fed run };
 
-    ghost is_whole = { λ _ fed checked. IsChecked (script_of fed) checked };
+    ghost is_whole = { λ _ fed told. IsTold SaysTrace (script_of fed) told };
 
     // Octets behind the first bad line aren't looked at.
     fn feed(&mut self, piece: &[u8]) -> Result<(), NoMemory> {
@@ -46,12 +50,22 @@ impl Feed for ScriptCheck {
         }
     }
 
-    fn finish(self) -> Result<Checked, NoMemory> {
-        let ScriptCheck { reader } = self;
+    fn finish(self) -> Result<Told, NoMemory> {
+        let ScriptRun { reader, alloc } = self;
         match reader.finish() {
-            Ok(_meaning) => Ok(Checked::Good),
-            Err(TextFault::BadAt(place)) => Ok(Checked::BadAt(place)),
-            Err(TextFault::OutOfResources) => Err(NoMemory),
+            Ok(script) => told_of(alloc, &script),
+            Err(fault) => refused(fault),
         }
     }
+}
+
+/// What comes of a script.
+fn told_of(alloc: Global, script: &Script) -> Result<Told, NoMemory>
+    ensures { IfOk result (IsTold SaysTrace (Ok script.now)) }
+{
+    if !are_built(script.steps.as_slice()) {
+        return Ok(Told::NotBuilt);
+    }
+    let trace = run_script(alloc, script)?;
+    Ok(Told::Text(trace))
 }

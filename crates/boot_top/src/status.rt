@@ -24,5 +24,6 @@ pub const NO_MEMORY: u8 = 6;
 /// The input is longer than 2,147,483,648 octets; nothing was written.
 pub const TOO_LONG: u8 = 7;
 
-/// The command isn't built yet; nothing was written. Where it has an input of its own text, that was read and is right.
+/// The command isn't built yet, or a step of a script is for a protocol that isn't; nothing was written. An input of the
+/// command's own text was read, and is right.
 pub const NOT_BUILT: u8 = 8;

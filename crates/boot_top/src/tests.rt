@@ -61,9 +61,20 @@ fn run_over(alloc: Global, words: &Vec<String>, src: &mut MemSource, out: &mut M
 /// The status, and whether just what is wanted is written.
 fn answer_to(alloc: Global, row: &Row) -> Result<(u8, bool), Fail> {
     let (word, length, read, write, _, text) = *row;
-    let words = vec![in alloc; String::from_str(alloc, word)?]?;
     let mut octets = from_hex(alloc, FIRST)?;
     octets.truncate(length);
+    answer_over(alloc, word, octets, (read, write), text)
+}
+
+/// The same, of a command and its input, with the numbers of the read and of the write that fail.
+fn answer_over(
+    alloc: Global,
+    word: &str,
+    octets: Vec<u8>,
+    (read, write): (u64, u64),
+    text: &str,
+) -> Result<(u8, bool), Fail> {
+    let words = vec![in alloc; String::from_str(alloc, word)?]?;
     let mut src = MemSource::new(octets, vec![in alloc; read]?);
     let mut out = MemSink::new(alloc, vec![in alloc; write]?);
     let status = run_over(alloc, &words, &mut src, &mut out);
@@ -76,6 +87,45 @@ fn answers_by_the_table(rt: HostRuntime) -> Result<(), Fail> {
         let (status, same) = answer_to(rt.alloc(), row)?;
         assert_eq!(rt; status, row.4, "{}", row.0);
         assert!(rt; same, "{} {}", row.0, row.4);
+    }
+    Ok(())
+}
+
+/// A script, the number of the write that fails, the status, and what is written: the whole trace where each step is for a
+/// protocol that is built.
+type ScriptRow = (&'static str, u64, u8, &'static str);
+
+const SCRIPTS: [ScriptRow; 5] = [
+    (
+        "efiscript 1\nsnp start\nsnp initialize\nsnp start\ncreate arp\narpfind 1 10.0.0.1\ntick 5\nend\n",
+        0,
+        SUCCESS,
+        "efitrace 1\ndone\ndone\nrefused already-started\nhandle 1\nrefused not-started\ntick 5\nend\n",
+    ),
+    ("efiscript 1\nend", 0, SUCCESS, "efitrace 1\nend\n"),
+    ("efiscript 1\nend\n", 1, SINK_FAILED, ""),
+    (
+        "efiscript 1\nsnp start\ncreate udp4\nend\n",
+        0,
+        NOT_BUILT,
+        "",
+    ),
+    (
+        "efiscript 1\nsnp start\nsnp begin\nend\n",
+        0,
+        BAD_INPUT,
+        "bad input at 22\n",
+    ),
+];
+
+#[test]
+fn scripts_are_run(rt: HostRuntime) -> Result<(), Fail> {
+    for row in &SCRIPTS {
+        let (script, write, wanted, text) = *row;
+        let octets = script.as_bytes().to_vec(rt.alloc())?;
+        let (status, same) = answer_over(rt.alloc(), "script", octets, (0, write), text)?;
+        assert_eq!(rt; status, wanted, "{script}");
+        assert!(rt; same, "{script}");
     }
     Ok(())
 }

@@ -11,10 +11,10 @@ ghost use Rattle.tap_core.specs.Peers.{Succeeds};
 ghost use Rattle.boot_top.specs.Commands.{AskFor, AskToExtract, Answers};
 ghost use Rattle.boot_top.specs.HonestPeers.{HasHonestPeer};
 
-use crate::checking::check_text;
 use crate::document::DocumentCheck;
 use crate::extract::extract;
-use crate::script::ScriptCheck;
+use crate::following::follow_text;
+use crate::script::ScriptRun;
 use crate::status::{BAD_WORDS, NO_MEMORY, NOT_BUILT};
 use boot_words::{Task, WordsFault, read_words};
 use efi_outside::{Sink, Source};
@@ -52,9 +52,9 @@ pub fn run<S: Source, K: Sink, P: Sink>(
 {
     match read_words(alloc, words) {
         Ok(Task::Extract(task)) => extract(alloc, task, src, out),
-        Ok(Task::Boot(_)) => check_text(alloc, DocumentCheck::new(alloc), src, out),
-        Ok(Task::Tftp(_)) => check_text(alloc, DocumentCheck::new(alloc), src, out),
-        Ok(Task::Script) => check_text(alloc, ScriptCheck::new(alloc), src, out),
+        Ok(Task::Boot(_)) => follow_text(alloc, DocumentCheck::new(alloc), src, out),
+        Ok(Task::Tftp(_)) => follow_text(alloc, DocumentCheck::new(alloc), src, out),
+        Ok(Task::Script) => follow_text(alloc, ScriptRun::new(alloc), src, out),
         Ok(Task::Replay(_)) => NOT_BUILT,
         Ok(Task::Make(_)) => NOT_BUILT,
         Err(WordsFault::Bad) => BAD_WORDS,

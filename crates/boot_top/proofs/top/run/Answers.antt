@@ -9,10 +9,12 @@ use Rattle.boot_words.specs.declared.task.Task.TheVariants as task
 use Rattle.tap_core.specs.Peers.{Succeeds}
 use Rattle.boot_top.specs.Commands.{AskFor, AskToExtract}
 use Rattle.boot_top.specs.HonestPeers.{HasHonestPeer}
+use Rattle.boot_top.specs.Scripts.{SaysTrace, DecidesTrace}
+use Rattle.boot_top.specs.Texts.{IsEight, IsUnbuilt}
 use Rattle.boot_top.proofs.Exact.{honest-of}
 use Rattle.boot_top.proofs.Ran.{asked-one, extract-one, extract-runs}
 use Rattle.boot_top.proofs.Memory.{no-memory}
-use Rattle.boot_top.proofs.Checks.{text-runs, boot-answers, tftp-answers}
+use Rattle.boot_top.proofs.Followed.{text-runs, unbuilt-agrees, trace-agrees, boot-answers, tftp-answers}
 use Rattle.session_text.specs.Sessions.{session_of}
 use Rattle.script_text.specs.Scripts.{script_of}
 use Rattle.boot_top.proofs.top.run.Goals as goal
@@ -31,32 +33,32 @@ pub returns-in-Ok-Boot-clause-answers : goal.returns-in-Ok-Boot-clause-answers
 returns-in-Ok-Boot-clause-answers g c asked-task ask =
     let words = map (string_bytes {Z = Global}) c.args.words.now.items in
     let asked : AskFor words c.in-Ok-Boot.field-0 = search rules in
-    let e = c.check_text.ensures in
+    let e = c.follow_text.ensures in
     let fed = c.new.ensures in
-    asked-one words c.in-Ok-Boot.field-0 asked-task _ _ _ c.check_text.result asked ask
+    asked-one words c.in-Ok-Boot.field-0 asked-task _ _ _ c.follow_text.result asked ask
     (boot-answers c.in-Ok-Boot.field-0 _ _ _ _ _ c.in-Ok-Boot.field-0-is
-    (text-runs session_of _ _ _ c.check_text.result refl e.others (e.good tt fed) (e.refused tt fed) (e.front tt fed) e.nothing
+    (text-runs session_of IsUnbuilt IsEight unbuilt-agrees _ _ _ c.follow_text.result refl e.others (e.said tt fed) (e.good tt fed) (e.refused tt fed) (e.front tt fed) e.nothing
     e.read_whole e.read_first e.taken e.too_long e.failed e.long e.source e.sink e.source_count e.sink_count))
 
 pub returns-in-Ok-Tftp-clause-answers : goal.returns-in-Ok-Tftp-clause-answers
 returns-in-Ok-Tftp-clause-answers g c asked-task ask =
     let words = map (string_bytes {Z = Global}) c.args.words.now.items in
     let asked : AskFor words c.in-Ok-Tftp.field-0 = search rules in
-    let e = c.check_text-in-Ok-Tftp.ensures in
+    let e = c.follow_text-in-Ok-Tftp.ensures in
     let fed = c.new-in-Ok-Tftp.ensures in
-    asked-one words c.in-Ok-Tftp.field-0 asked-task _ _ _ c.check_text-in-Ok-Tftp.result asked ask
+    asked-one words c.in-Ok-Tftp.field-0 asked-task _ _ _ c.follow_text-in-Ok-Tftp.result asked ask
     (tftp-answers c.in-Ok-Tftp.field-0 _ _ _ _ _ c.in-Ok-Tftp.field-0-is
-    (text-runs session_of _ _ _ c.check_text-in-Ok-Tftp.result refl e.others (e.good tt fed) (e.refused tt fed) (e.front tt fed) e.nothing
+    (text-runs session_of IsUnbuilt IsEight unbuilt-agrees _ _ _ c.follow_text-in-Ok-Tftp.result refl e.others (e.said tt fed) (e.good tt fed) (e.refused tt fed) (e.front tt fed) e.nothing
     e.read_whole e.read_first e.taken e.too_long e.failed e.long e.source e.sink e.source_count e.sink_count))
 
 pub returns-in-Ok-Script-clause-answers : goal.returns-in-Ok-Script-clause-answers
 returns-in-Ok-Script-clause-answers g c asked-task ask =
     let words = map (string_bytes {Z = Global}) c.args.words.now.items in
     let asked : AskFor words task.Script = search rules in
-    let e = c.check_text-in-Ok-Script.ensures in
+    let e = c.follow_text-in-Ok-Script.ensures in
     let fed = c.new-in-Ok-Script.ensures in
-    asked-one words task.Script asked-task _ _ _ c.check_text-in-Ok-Script.result asked ask
-    (text-runs script_of _ _ _ c.check_text-in-Ok-Script.result refl e.others (e.good tt fed) (e.refused tt fed) (e.front tt fed) e.nothing
+    asked-one words task.Script asked-task _ _ _ c.follow_text-in-Ok-Script.result asked ask
+    (text-runs script_of SaysTrace DecidesTrace trace-agrees _ _ _ c.follow_text-in-Ok-Script.result refl e.others (e.said tt fed) (e.good tt fed) (e.refused tt fed) (e.front tt fed) e.nothing
     e.read_whole e.read_first e.taken e.too_long e.failed e.long e.source e.sink e.source_count e.sink_count)
 
 pub returns-in-Ok-Extract-clause-honest_download : goal.returns-in-Ok-Extract-clause-honest_download

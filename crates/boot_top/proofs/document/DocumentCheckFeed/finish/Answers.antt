@@ -1,12 +1,15 @@
 -- What came of all that was fed.
+use Rattle.std.proofs.Common.{refl}
 use Rattle.session_text.specs.Reading.{HasRead}
 use Rattle.session_text.specs.Sessions.{session_of}
-use Rattle.boot_top.proofs.Texts.{good-at-end, bad-at-end}
+use Rattle.boot_top.specs.Texts.{IsUnbuilt}
+use Rattle.boot_top.proofs.Texts.{good-at-end, cause-at-end, if-cause}
 use Rattle.boot_top.proofs.document.DocumentCheckFeed.finish.Goals as goal
 
 pub returns-in-Ok : goal.returns-in-Ok
-returns-in-Ok c about fed checked = good-at-end HasRead session_of fed _ _ _ checked c.in-Ok.ensures.whole
+returns-in-Ok c about fed read = (_, good-at-end HasRead session_of fed _ _ _ read c.in-Ok.ensures.whole, (refl, refl))
 
-pub returns-in-Err-BadAt : goal.returns-in-Err-BadAt
-returns-in-Err-BadAt c about fed checked =
-    bad-at-end HasRead session_of fed _ _ c.finish.result _ _ checked c.in-Err-BadAt.field-0-is c.in-Err-BadAt.is c.in-Err-BadAt.ensures.refused c.finish.ensures.told
+pub returns-in-Err : goal.returns-in-Err
+returns-in-Err c about fed read =
+    if-cause IsUnbuilt c.refused.result (session_of fed) _
+    (cause-at-end HasRead session_of fed _ _ c.finish.result _ read c.in-Err.is c.in-Err.ensures.refused c.finish.ensures.told) c.refused.ensures

@@ -2,5 +2,5 @@
 pub mod Steps
 -- the octets of a datagram fill a room of their length
 pub mod Texts
--- one round of ends
+-- what is found among tokens that are lent
 pub mod Ends

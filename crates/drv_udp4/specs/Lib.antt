@@ -8,8 +8,6 @@ pub mod Hearing
 pub mod Ports
 -- why calls are refused
 pub mod Refusing
--- tokens that end one after another
-pub mod Rounds
 -- what a message that a port took nothing does
 pub mod Unreached
 -- the driver as contracts see it, and what its calls answer and leave

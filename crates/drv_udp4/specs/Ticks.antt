@@ -6,7 +6,7 @@ use Rattle.efi_book.specs.Cores.{in_tokens}
 use Rattle.efi_book.specs.declared.ends.Pending.{Pending}
 use Rattle.efi_timer.specs.Ticking.{ticks}
 use Rattle.drv_udp4.specs.declared.work.Ask.{Ask}
-use Rattle.drv_udp4.specs.Rounds.{all_ended}
+use Rattle.efi_book.specs.Rounds.{all_ended}
 use Rattle.drv_udp4.specs.Udps.{UdpState}
 
 abbrev pub is_until : ℕ → Option Tick → Bool

@@ -1,19 +1,18 @@
 -- The driver as a machine with moments: before the next one nothing is due.
-use Rattle.std.specs.Prelude.{◌≡◌, refl, ℕ, ◌<◌, zero, suc, Bool, false, List, [], ◌∷◌, length, slice_get, Option, Some, None, IfSome}
+use Rattle.std.specs.Prelude.{◌≡◌, refl, ℕ, ◌<◌, Bool, false, List, [], ◌∷◌, length, slice_get, Option, Some, None, IfSome}
 use Rattle.std.specs.List.{position}
 use Rattle.std.specs.Option.{option_and_then}
 use Rattle.std.proofs.Common.{◌∙◌, ap, arith}
 use Rattle.std.proofs.lemmas.Bool.Decides.{nat_tests}
 use Rattle.efi_base.specs.declared.plain.Tick.{Tick}
-use Rattle.efi_base.specs.declared.tokens.End.{End}
 use Rattle.efi_base.specs.declared.tokens.End.TheVariants.{ReceiveTimeout}
 use Rattle.efi_book.specs.declared.ends.Pending.{Pending}
-use Rattle.efi_book.specs.Books.{Tokens, ticket_of}
+use Rattle.efi_book.specs.Books.{Tokens}
 use Rattle.efi_book.specs.Firsts.{first_by}
 use Rattle.efi_book.specs.Cores.{in_tokens}
 use Rattle.efi_timer.specs.Ticking.{IsTimed}
 use Rattle.drv_udp4.specs.declared.work.Ask.{Ask}
-use Rattle.drv_udp4.specs.Rounds.{ended_as, rounds}
+use Rattle.efi_book.specs.Rounds.{no_rounds}
 use Rattle.drv_udp4.specs.Udps.{UdpState}
 use Rattle.drv_udp4.specs.Ticks.{is_until, is_due, acted, at, moment_of, least, later_than, next_of_all, next_of}
 
@@ -63,12 +62,6 @@ all_later : (moment : ℕ) (ps : List (Pending Ask)) → IfSome (next_of_all mom
 all_later moment [] = tt
 all_later moment (p ∷ ps) =
     after_least (later_than moment p.work.until) (next_of_all moment ps) moment (is_later moment p.work.until) (all_later moment ps)
-
--- where no token passes the test, none ends
-pub no_rounds : (test : Pending Ask → Bool) (end : End) (n : ℕ) (ts : Tokens Ask) → first_by test ts.pending ≡ None → rounds test end n ts ≡ ts
-no_rounds test end zero ts h = refl
-no_rounds test end (suc n) ts h =
-    ap (λ o. rounds test end n (ended_as end (ticket_of o) ts)) h ∙ no_rounds test end n ts h
 
 nowhere : (test : Pending Ask → Bool) (ps : List (Pending Ask)) → position test ps ≡ None → first_by test ps ≡ None
 nowhere test ps h = ap (option_and_then (λ (k : ℕ). slice_get ps k)) h

@@ -34,7 +34,7 @@ use Rattle.drv_udp4.specs.Hearing.{Heard, all_given, any_hears, everyone, hearer
 use Rattle.drv_udp4.specs.Networks.{address_of}
 use Rattle.drv_udp4.specs.Ports.{next_free, port_at, with_port}
 use Rattle.drv_udp4.specs.Refusing.{cfg_refusal, work_refusal}
-use Rattle.drv_udp4.specs.Rounds.{all_ended}
+use Rattle.efi_book.specs.Rounds.{all_ended}
 use Rattle.drv_udp4.specs.Unreached.{all_refused, is_senders, quoted}
 use Rattle.drv_udp4.specs.Works.{ask_of, is_transmit}
 

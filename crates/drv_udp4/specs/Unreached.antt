@@ -13,7 +13,7 @@ use Rattle.drv_udp4.specs.declared.work.UdpCfg.{UdpCfg}
 use Rattle.drv_udp4.specs.declared.work.Ask.{Ask}
 use Rattle.drv_udp4.specs.Hearing.{is_peer}
 use Rattle.drv_udp4.specs.Networks.{address_of, is_at_address}
-use Rattle.drv_udp4.specs.Rounds.{ended_as}
+use Rattle.efi_book.specs.Rounds.{ended_as}
 use Rattle.drv_udp4.specs.Works.{kind_of_ask}
 
 -- a header of version 4 and protocol 17, and eight octets behind it; its checksum and length count for nothing

@@ -4,7 +4,7 @@ ghost use Rattle.std.specs.List.{list_any, position};
 ghost use Rattle.efi_base.specs.declared.tokens.End.TheVariants.{NoMapping, ReceiveTimeout};
 ghost use Rattle.efi_book.specs.Books.{Keeps, ticket_of};
 ghost use Rattle.efi_book.specs.Firsts.{first_by};
-ghost use Rattle.drv_udp4.specs.Rounds.{all_ended};
+ghost use Rattle.efi_book.specs.Rounds.{all_ended};
 ghost use Rattle.drv_udp4.specs.Ticks.{is_due, is_until, later_than, least, next_of_all};
 ghost use Rattle.drv_udp4.specs.Udps.{is_homeless, is_homeless_child, uses_home};
 

@@ -6,6 +6,8 @@ pub mod Owners
 pub mod Pendings
 -- what a contract sees of a book
 pub mod Books
+-- tokens that end one after another
+pub mod Rounds
 -- no call loses or doubles a token, by whatever it is told apart: its ticket, its child, its owner
 pub mod Conserves
 -- how a table keeps children: a slot for each key, and the keys in the order of making

@@ -3,7 +3,8 @@ use Rattle.efi_base.specs.declared.tokens.End.TheVariants.{ReceiveTimeout}
 use Rattle.drv_udp4.specs.Ticks.{is_due}
 use Rattle.efi_book.specs.Books.{ticket_of}
 use Rattle.efi_book.specs.Firsts.{first_by}
-use Rattle.drv_udp4.proofs.Ends.{found, round_more, round_rest}
+use Rattle.efi_book.specs.Rounds.{round_more, round_rest}
+use Rattle.drv_udp4.proofs.Ends.{found}
 use Rattle.drv_udp4.proofs.waiting.end_due.Goals as goal
 
 pub returns-in_default-clause-after : goal.returns-in_default-clause-after

@@ -1,7 +1,7 @@
 use Rattle.std.proofs.Common.{◌≡◌}
 use Rattle.efi_base.specs.declared.tokens.End.TheVariants.{ReceiveTimeout}
 use Rattle.efi_book.specs.Books.{Keeps}
-use Rattle.drv_udp4.specs.Rounds.{all_ended, rounds}
+use Rattle.efi_book.specs.Rounds.{all_ended, rounds}
 use Rattle.drv_udp4.specs.Ticks.{is_due}
 use Rattle.drv_udp4.proofs.waiting.end_due.Given as goal
 

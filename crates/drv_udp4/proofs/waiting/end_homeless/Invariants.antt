@@ -1,7 +1,7 @@
 use Rattle.std.proofs.Common.{◌≡◌}
 use Rattle.efi_base.specs.declared.tokens.End.TheVariants.{NoMapping}
 use Rattle.efi_book.specs.Books.{Keeps}
-use Rattle.drv_udp4.specs.Rounds.{all_ended, rounds}
+use Rattle.efi_book.specs.Rounds.{all_ended, rounds}
 use Rattle.drv_udp4.specs.Udps.{uses_home}
 use Rattle.drv_udp4.proofs.waiting.end_homeless.Given as goal
 

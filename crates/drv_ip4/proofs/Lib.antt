@@ -1,6 +1,4 @@
--- tokens that end with a default address
-pub mod Losing
 -- the removal of several routes
 pub mod Removing
--- one step of a walk over children
+-- one step of a walk over children, or over tokens
 pub mod Steps

@@ -1,5 +1,6 @@
--- One step of a walk over children.
-use Rattle.std.proofs.Common.{◌≡◌, ℕ, ◌+◌, Bool, true, false, List, [], ◌∷◌, ◌++◌, filter, drop, Option, Some, slice_get, refl, sym, ap, ◌∙◌, cond}
+-- One step of a walk over children, or over tokens.
+use Rattle.std.proofs.Common.{◌≡◌, ℕ, zero, suc, ◌+◌, Bool, true, false, ◌||◌, List, [], ◌∷◌, ◌++◌, filter, drop, Option, Some, slice_get, refl, sym, ap, ◌∙◌, cond}
+use Rattle.std.specs.List.{list_any}
 use Rattle.efi_base.specs.declared.units.IpPacket.{IpPacket}
 use Rattle.efi_book.specs.declared.children.Child.{Child}
 use Rattle.efi_book.specs.Books.{Tokens}
@@ -28,3 +29,22 @@ both-given d test (x ∷ xs) ys ts =
     one-given d (test x) x (filter test (xs ++ ys)) ts
     ∙ both-given d test xs ys (all_given d (cond (test x) (x ∷ []) []) ts)
     ∙ ap (all_given d (filter test ys)) (sym (one-given d (test x) x (filter test xs) ts))
+
+-- what is found at some place is found
+pub met : (test : Child (Option IpCfg) → Bool) (cs : List (Child (Option IpCfg))) (k : ℕ) (c : Child (Option IpCfg)) → slice_get cs k ≡ Some c → test c ≡ true → list_any test cs ≡ true
+met test [] k c e h = absurd (cc)
+met test (x ∷ xs) zero c e h = let same : x ≡ c = cc in ap (λ y. test y || list_any test xs) same ∙ ap (λ b. b || list_any test xs) h
+met test (x ∷ xs) (suc k) c e h = ap (λ b. test x || b) (met test xs k c e h) ∙ or-true (test x)
+  where
+    or-true : (b : Bool) → (b || true) ≡ true
+    or-true true = refl
+    or-true false = refl
+
+pub passed : (test : Child (Option IpCfg) → Bool) (cs : List (Child (Option IpCfg))) (k : ℕ) (c : Child (Option IpCfg)) → slice_get cs k ≡ Some c → test c ≡ false
+    → list_any test (drop (k + 1) cs) ≡ list_any test (drop k cs)
+passed test cs k c e h =
+    sym (ap (λ b. b || list_any test (drop (k + 1) cs)) h) ∙ sym (ap (list_any test) (drop-at cs k c e))
+
+-- what was found among the tokens that were lent is what is found
+pub found : {X Y : Type 0} (f : X → Y) {lent whole : X} {a b : Y} → lent ≡ whole → a ≡ f lent → a ≡ b → f whole ≡ b
+found f e is same = ap f (sym e) ∙ sym is ∙ same

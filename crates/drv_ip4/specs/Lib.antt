@@ -10,8 +10,6 @@ pub mod Icmps
 pub mod Hearing
 -- what the end of a default address does to tokens
 pub mod Lost
--- how they end, one place after another
-pub mod Losing
 -- the driver as contracts see it, and what its calls answer and leave
 pub mod Ips
 -- what a packet leaves as it was

@@ -1,16 +1,14 @@
 -- What the end of a default address does to tokens: those of the children that use it end.
-use Rattle.std.specs.Prelude.{Bool, false, not, ◌&&◌, ◌||◌, ◌==◌, is_none, List, [], ◌∷◌, ◌++◌, filter, Option, Some, None}
+use Rattle.std.specs.Prelude.{Bool, false, ◌&&◌, ◌||◌, ◌==◌, is_none, Option, Some, None}
 use Rattle.std.specs.List.{list_any}
 use Rattle.efi_base.specs.declared.tokens.ChildId.{ChildId}
 use Rattle.efi_base.specs.declared.tokens.End.TheVariants.{NoMapping}
 use Rattle.efi_base.specs.declared.plain.Addr.{Addr}
 use Rattle.efi_book.specs.declared.children.Child.{Child}
 use Rattle.efi_book.specs.declared.ends.Pending.{Pending}
-use Rattle.efi_book.specs.declared.ends.Done.{Done}
-use Rattle.efi_book.specs.declared.ends.Raised.{Raised}
 use Rattle.efi_book.specs.Families.{Family}
-use Rattle.efi_book.specs.Pendings.{to_users, to_uppers}
 use Rattle.efi_book.specs.Books.{Tokens}
+use Rattle.efi_book.specs.Rounds.{all_ended}
 use Rattle.drv_ip4.specs.declared.work.IpCfg.{IpCfg}
 use Rattle.drv_ip4.specs.declared.work.IpWork.{IpWork}
 
@@ -28,33 +26,10 @@ abbrev pub has_user : Family (Option IpCfg) → ChildId → Bool
 has_user f id = list_any (is_user_of id) f.live || list_any (is_user_of id) f.own
 
 -- a token of a child that uses the default address
-abbrev pub rests : Family (Option IpCfg) → Pending IpWork → Bool
-rests f p = has_user f p.child
+abbrev pub rests_on : Family (Option IpCfg) → Pending IpWork → Bool
+rests_on f p = has_user f p.child
 
-abbrev pub rests_not : Family (Option IpCfg) → Pending IpWork → Bool
-rests_not f p = not (rests f p)
-
--- these tokens, ended as without a mapping, one after another
-abbrev pub users_lost : List (Pending IpWork) → List (Done IpWork)
-users_lost [] = []
-users_lost (p ∷ ps) = to_users p NoMapping ++ users_lost ps
-
-abbrev pub uppers_lost : List (Pending IpWork) → List (Raised IpWork)
-uppers_lost [] = []
-uppers_lost (p ∷ ps) = to_uppers p NoMapping ++ uppers_lost ps
-
--- the tokens that rest on the default address end by rising ticket, each by its owner's exit; the others stay, in their
--- order
-abbrev pub lost : Family (Option IpCfg) → Tokens IpWork → Tokens IpWork
-lost f ts = record {
-  pending = filter (rests_not f) ts.pending;
-  done = ts.done ++ users_lost (filter (rests f) ts.pending);
-  ups = ts.ups ++ uppers_lost (filter (rests f) ts.pending);
-  next = ts.next;
-  spare = ts.spare;
-}
-
--- they end where a default address stood
+-- where a default address stood, the tokens that rest on it end, the oldest first, each by its owner's exit
 abbrev pub lost_with : Option Addr → Family (Option IpCfg) → Tokens IpWork → Tokens IpWork
 lost_with None f ts = ts
-lost_with (Some home) f ts = lost f ts
+lost_with (Some home) f ts = all_ended (rests_on f) NoMapping ts

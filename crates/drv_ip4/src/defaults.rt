@@ -1,10 +1,11 @@
 //! What the end of a default address does to tokens. What it does to routes isn't here.
-ghost use Rattle.std.specs.Prelude.{◌≡◌, ◌+◌, ◌<◌, length, option_map, slice_get};
-ghost use Rattle.std.specs.List.{list_any};
-ghost use Rattle.efi_book.specs.Aborts.{IsRising};
-ghost use Rattle.efi_book.specs.Books.{Keeps};
-ghost use Rattle.drv_ip4.specs.Lost.{has_user, is_user_of, lost, lost_with, uses_default};
-ghost use Rattle.drv_ip4.specs.Losing.{Goes, seen};
+ghost use Rattle.std.specs.Prelude.{◌≡◌, ◌<◌, length, IfSome};
+ghost use Rattle.std.specs.List.{list_any, position};
+ghost use Rattle.efi_base.specs.declared.tokens.End.TheVariants.{NoMapping};
+ghost use Rattle.efi_book.specs.Books.{Keeps, ticket_of};
+ghost use Rattle.efi_book.specs.Firsts.{first_by};
+ghost use Rattle.efi_book.specs.Rounds.{all_ended};
+ghost use Rattle.drv_ip4.specs.Lost.{is_user_of, lost_with, rests_on, uses_default};
 
 use crate::work::{Ip4K, IpCfg, IpWork};
 use efi_base::{Addr, ChildId, End, Ticket};
@@ -49,51 +50,46 @@ fn is_own(children: &Children<Ip4K, Option<IpCfg>>, id: ChildId) -> bool
     false
 }
 
-/// Whether the child of this serial uses the default address.
-fn has_user(children: &Children<Ip4K, Option<IpCfg>>, id: ChildId) -> bool
-    ensures { result ≡ has_user children.now id }
+/// Whether the token is of a child that uses the default address.
+fn rests_on(children: &Children<Ip4K, Option<IpCfg>>, p: &Pending<IpWork>) -> bool
+    ensures { result ≡ rests_on children.now p.now }
 {
-    is_callers(children, id) || is_own(children, id)
+    is_callers(children, p.child) || is_own(children, p.child)
 }
 
-/// The ticket and the child of the token at this place.
-fn seen_at(pending: &[Pending<IpWork>], i: usize) -> Option<(Ticket, ChildId)>
-    ensures { result ≡ option_map seen (slice_get pending.now i) }
+/// Where the oldest token stands that rests on the default address.
+fn place_resting(
+    children: &Children<Ip4K, Option<IpCfg>>,
+    pending: &[Pending<IpWork>],
+) -> Option<usize>
+    ensures place { result ≡ position (rests_on children.now) pending.now }
+    ensures within { IfSome result (λ k. k < length pending.now) }
 {
-    if i < pending.len() {
-        return Some((pending[i].ticket, pending[i].child));
-    }
-    None
+    pending.iter().position(|p| rests_on(children, p))
 }
 
-/// The token at this place ends where it rests on the default address, and the next one stands there then; else the next
-/// one stands behind it.
-fn end_at(children: &Children<Ip4K, Option<IpCfg>>, tokens: &mut Book<IpWork>, i: usize) -> usize
-    ensures goes { IsRising tokens.old → i < length tokens.old.pending → Goes children.now tokens.old i tokens.new result }
-    ensures keeps { Keeps tokens.old tokens.new }
+fn first_resting(
+    children: &Children<Ip4K, Option<IpCfg>>,
+    pending: &[Pending<IpWork>],
+) -> Option<Ticket>
+    ensures { result ≡ ticket_of (first_by (rests_on children.now) pending.now) }
 {
-    if i >= tokens.pending().len() {
-        return i;
-    }
-    let Some((ticket, id)) = seen_at(tokens.pending(), i) else {
-        return i;
-    };
-    if has_user(children, id) {
-        tokens.complete(ticket, End::NoMapping);
-        return i;
-    }
-    i + 1
+    let i = place_resting(children, pending)?;
+    Some(pending[i].ticket)
 }
 
-/// The tokens that rest on the default address end. It takes no memory.
+/// The tokens that rest on the default address end, the oldest first. It takes no memory.
 fn end_resting(children: &Children<Ip4K, Option<IpCfg>>, tokens: &mut Book<IpWork>)
-    // Tickets rise in every book that calls made.
-    ensures after { IsRising tokens.old → tokens.new ≡ lost children.now tokens.old }
+    ensures after { tokens.new ≡ all_ended (rests_on children.now) NoMapping tokens.old }
     ensures keeps { Keeps tokens.old tokens.new }
 {
-    let mut i = 0;
-    for _k in 0..tokens.pending().len() {
-        i = end_at(children, tokens, i);
+    let mut left = tokens.pending().len();
+    while left > 0 {
+        let Some(t) = first_resting(children, tokens.pending()) else {
+            return;
+        };
+        tokens.complete(t, End::NoMapping);
+        left -= 1;
     }
 }
 
@@ -103,7 +99,7 @@ pub(crate) fn lose(
     tokens: &mut Book<IpWork>,
     home: Option<Addr>,
 )
-    ensures after { IsRising tokens.old → tokens.new ≡ lost_with home children.now tokens.old }
+    ensures after { tokens.new ≡ lost_with home children.now tokens.old }
     ensures keeps { Keeps tokens.old tokens.new }
 {
     if let Some(_) = home {

@@ -3,7 +3,6 @@
 ghost use Rattle.std.specs.Prelude.{◌≡◌, ℕ, ◌+◌, ◌≤◌, length, slice_get, None, true, IfOk, IfErr, IfSome, IfNone, OnOk, OnErr, is_some};
 ghost use Rattle.efi_base.specs.Refusals.{AnswersBy, RefusesExactly, first_of};
 ghost use Rattle.efi_base.specs.declared.tokens.Owner.{Owner as OwnerValue};
-ghost use Rattle.efi_book.specs.Aborts.{IsRising};
 ghost use Rattle.efi_book.specs.Books.{Keeps, accept_refusal, given, given_up, owner_aborted, times, without_done, without_up};
 ghost use Rattle.efi_book.specs.Cores.{cfg_of, configured, destroyed, drive_cancel_refusal, drive_cancelled, drive_token_cancelled, drive_token_refusal, id_of, in_outbox, in_tokens, is_busy, made, own_made};
 ghost use Rattle.efi_book.specs.Families.{create_own_refusal, create_refusal, handle_refusal};
@@ -14,7 +13,7 @@ ghost use Rattle.wire_ip4.specs.Seen.{packet_seen};
 ghost use Rattle.ip_core.specs.Routing.{add_refusal, remove_refusal};
 ghost use Rattle.drv_ip4.specs.declared.work.IpWork.TheVariants.{Transmit};
 ghost use Rattle.drv_ip4.specs.Ips.{datagram_sent, default_set, given_down, hop_or_none, in_drive, in_net, in_pools, ip_configure_refusal, mailed, new_state, packet_heard, post_refusal, token_posted, told_unreachable, tx_posted, with_last};
-ghost use Rattle.drv_ip4.specs.Nets.{at_or, brought_in, settled, with_route, with_stations, without_route};
+ghost use Rattle.drv_ip4.specs.Nets.{at_or, brought_in, with_route, with_stations, without_route};
 ghost use Rattle.drv_ip4.specs.Sendings.{answer_counted, answered_down, tx_refusal};
 ghost use Rattle.drv_ip4.specs.Icmps.{answer_to};
 ghost use Rattle.efi_book.specs.Drives.{drive};
@@ -293,13 +292,11 @@ impl DrvIp4 {
     }
 
     /// Another default address, or none. Where one stood, the pending tokens of the children that use it end as
-    /// `NoMapping`, by rising ticket, also where the new one is the same; the children stay configured. The routes that
+    /// `NoMapping`, the oldest first, also where the new one is the same; the children stay configured. The routes that
     /// it brought go, and the new one brings the route to its network, unless it is there or there are 64. It takes no
     /// memory.
     pub fn set_default(&mut self, a: Option<Addr>)
-        // Tickets rise in every book that calls made.
-        ensures after { IsRising self.old.drive.tokens → self.new ≡ default_set self.old a }
-        ensures rest { self.new ≡ in_net (in_drive self.old (in_tokens self.old.drive self.new.drive.tokens)) (settled self.old.net a) }
+        ensures after { self.new ≡ default_set self.old a }
         ensures keeps { Keeps self.old.drive.tokens self.new.drive.tokens }
     {
         lose(&self.core.children, &mut self.core.tokens, self.net.home());

@@ -1,15 +1,15 @@
-use Rattle.std.proofs.Common.{◌≡◌, ◌+◌, length}
-use Rattle.efi_book.specs.Aborts.{IsRising}
+use Rattle.std.proofs.Common.{◌≡◌}
+use Rattle.efi_base.specs.declared.tokens.End.TheVariants.{NoMapping}
 use Rattle.efi_book.specs.Books.{Keeps}
-use Rattle.drv_ip4.specs.Lost.{lost}
-use Rattle.drv_ip4.specs.Losing.{lost_from}
+use Rattle.efi_book.specs.Rounds.{all_ended, rounds}
+use Rattle.drv_ip4.specs.Lost.{rests_on}
 use Rattle.drv_ip4.proofs.defaults.end_resting.Given as goal
 
--- those from this place on make the whole of what ends, and as many places as were looked at are behind or gone
-abbrev pub invariant-loop-k : goal.invariant-loop-k
-invariant-loop-k l = record {
-  looked : IsRising l.initial.tokens → IsRising l.tokens
-      × (lost_from l.children l.i l.tokens ≡ lost l.children l.initial.tokens)
-      × (l._k + length l.tokens.pending ≡ l._k-end + l.i);
+abbrev pub invariant-loop-left : goal.invariant-loop-left
+invariant-loop-left l = record {
+  whole : rounds (rests_on l.children) NoMapping l.left l.tokens ≡ all_ended (rests_on l.children) NoMapping l.initial.tokens;
   keeps : Keeps l.initial.tokens l.tokens;
 }
+
+abbrev pub decreases-loop-left : goal.decreases-loop-left
+decreases-loop-left l = l.left

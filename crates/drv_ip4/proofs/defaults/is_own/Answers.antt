@@ -1,6 +1,6 @@
 use Rattle.std.proofs.Common.{sym, ◌∙◌}
 use Rattle.drv_ip4.specs.Lost.{is_user_of}
-use Rattle.drv_ip4.proofs.Losing.{met, passed}
+use Rattle.drv_ip4.proofs.Steps.{met, passed}
 use Rattle.drv_ip4.proofs.defaults.is_own.Goals as goal
 
 pub returns-then-is_user_of : goal.returns-then-is_user_of

@@ -1,6 +1,7 @@
 -- One step of a walk over children, or over tokens.
-use Rattle.std.proofs.Common.{◌≡◌, ℕ, zero, suc, ◌+◌, Bool, true, false, ◌||◌, List, [], ◌∷◌, ◌++◌, filter, drop, Option, Some, slice_get, refl, sym, ap, ◌∙◌, cond}
+use Rattle.std.proofs.Common.{◌≡◌, ℕ, zero, suc, ◌+◌, Bool, true, false, ◌||◌, List, [], ◌∷◌, ◌++◌, filter, map, drop, Option, Some, slice_get, option_map, refl, sym, ap, ◌∙◌, cond}
 use Rattle.std.specs.List.{list_any}
+use Rattle.std.proofs.lemmas.Option.{slice_get-map}
 use Rattle.efi_base.specs.declared.units.IpPacket.{IpPacket}
 use Rattle.efi_book.specs.declared.children.Child.{Child}
 use Rattle.efi_book.specs.Books.{Tokens}
@@ -48,3 +49,7 @@ passed test cs k c e h =
 -- what was found among the tokens that were lent is what is found
 pub found : {X Y : Type 0} (f : X → Y) {lent whole : X} {a b : Y} → lent ≡ whole → a ≡ f lent → a ≡ b → f whole ≡ b
 found f e is same = ap f (sym e) ∙ sym is ∙ same
+
+-- what a function makes of the element at some place
+pub mapped-at : {X Y : Type 0} (f : X → Y) (xs : List X) (k : ℕ) (x : X) (y : Y) → slice_get xs k ≡ Some x → y ≡ f x → slice_get (map f xs) k ≡ Some y
+mapped-at f xs k x y h e = slice_get-map f xs k ∙ ap (option_map f) h ∙ ap Some (sym e)

@@ -1,10 +1,12 @@
 -- Where the station is in its networks: the default address and what it brought, routes, and station addresses.
-use Rattle.std.specs.Prelude.{ℕ, ◌+◌, ◌-◌, ◌%◌, ◌^◌, Bool, ◌||◌, ◌==◌, is_none, List, [], ◌∷◌, ◌++◌, length, Option, Some, None, if◌then◌else◌, bit_and, bit_or}
+use Rattle.std.specs.Prelude.{ℕ, ◌+◌, ◌-◌, ◌%◌, ◌^◌, Bool, ◌||◌, ◌==◌, is_none, List, [], ◌∷◌, ◌++◌, length, map, Option, Some, None, if◌then◌else◌, bit_and, bit_or}
 use Rattle.std.specs.List.{list_any}
 use Rattle.std.specs.Option.{option_map}
 use Rattle.efi_base.specs.Addresses.{is_broadcast}
 use Rattle.efi_base.specs.declared.plain.Addr.{Addr}
 use Rattle.efi_base.specs.declared.plain.Ip4.{Ip4}
+use Rattle.efi_book.specs.declared.children.Child.{Child}
+use Rattle.efi_book.specs.Families.{Family}
 use Rattle.ip_core.specs.Routing.{add_refusal, best_of, next_hop, without, limit}
 use Rattle.ip_core.specs.declared.routes.Route.{Route}
 use Rattle.drv_ip4.specs.declared.work.Hop.{Hop}
@@ -40,6 +42,18 @@ at_or (Some at) home = Some at
 
 abbrev pub address_used : Option Addr → IpCfg → Option Addr
 address_used home cfg = at_or cfg.at home
+
+-- the address that a child names for itself, where it is configured
+abbrev pub named_by : Option IpCfg → Option Addr
+named_by None = None
+named_by (Some cfg) = cfg.at
+
+abbrev pub address_named : Child (Option IpCfg) → Option Addr
+address_named child = named_by child.value
+
+-- those of the callers' children, in the order of making
+abbrev pub addresses_of : Family (Option IpCfg) → List (Option Addr)
+addresses_of f = map address_named f.live
 
 -- the limited broadcast, or the all-ones address of this address's network (RFC 922, section 7)
 abbrev pub is_everyones : Addr → ℕ → Bool

@@ -1,6 +1,6 @@
 //! The driver and its calls: children of callers and of the stack, their tokens, addresses and routes, and the datagrams
 //! for the layer below. Which children hear a datagram, and what ICMP answers, are decided elsewhere.
-ghost use Rattle.std.specs.Prelude.{◌≡◌, ℕ, ◌+◌, ◌≤◌, length, slice_get, None, true, IfOk, IfErr, IfSome, IfNone, OnOk, OnErr, is_some};
+ghost use Rattle.std.specs.Prelude.{◌≡◌, ℕ, ◌+◌, ◌<◌, ◌≤◌, length, slice_get, None, true, IfOk, IfErr, IfSome, IfNone, OnOk, OnErr, is_some};
 ghost use Rattle.efi_base.specs.Refusals.{AnswersBy, RefusesExactly, first_of};
 ghost use Rattle.efi_base.specs.declared.tokens.Owner.{Owner as OwnerValue};
 ghost use Rattle.efi_book.specs.Books.{Keeps, accept_refusal, given, given_up, owner_aborted, times, without_done, without_up};
@@ -13,7 +13,7 @@ ghost use Rattle.wire_ip4.specs.Seen.{packet_seen};
 ghost use Rattle.ip_core.specs.Routing.{add_refusal, remove_refusal};
 ghost use Rattle.drv_ip4.specs.declared.work.IpWork.TheVariants.{Transmit};
 ghost use Rattle.drv_ip4.specs.Ips.{datagram_sent, default_set, given_down, hop_or_none, in_drive, in_net, in_pools, ip_configure_refusal, mailed, new_state, packet_heard, post_refusal, token_posted, told_unreachable, tx_posted, with_last};
-ghost use Rattle.drv_ip4.specs.Nets.{at_or, brought_in, with_route, with_stations, without_route};
+ghost use Rattle.drv_ip4.specs.Nets.{address_named, addresses_of, at_or, brought_in, with_route, with_stations, without_route};
 ghost use Rattle.drv_ip4.specs.Sendings.{answer_counted, answered_down, tx_refusal};
 ghost use Rattle.drv_ip4.specs.Icmps.{answer_to};
 ghost use Rattle.efi_book.specs.Drives.{drive};
@@ -30,7 +30,7 @@ use efi_base::{
     Addr, Bytes, ChildId, End, Ip4, IpPacket, NoMemory, Owner, Proto, Refuse, Refused, Tick,
     Ticket, TokenId,
 };
-use efi_book::{Core, Done, Handle, OWN_CHILDREN, Raised};
+use efi_book::{Child, Core, Done, Handle, OWN_CHILDREN, Raised};
 use ip_core::{Reasm, Route, Routes};
 use std::alloc::Global;
 use std::marker::Model;
@@ -116,6 +116,22 @@ impl DrvIp4 {
         ensures { result ≡ is_busy self.now.drive }
     {
         self.core.is_busy()
+    }
+
+    /// How many children callers have.
+    pub fn len(&self) -> usize
+        ensures { result ≡ length self.now.drive.family.live }
+    {
+        self.core.children.len()
+    }
+
+    /// The address that a caller's child names for itself, by order of making from 0: `None` where it uses the default
+    /// one, or isn't configured.
+    pub fn address_at(&self, i: usize) -> Option<Addr>
+        requires { i < length self.now.drive.family.live }
+        ensures { slice_get (addresses_of self.now.drive.family) i ≡ Some result }
+    {
+        address_named(self.core.children.at(i))
     }
 
     /// The child's pending token of this ticket ends as aborted, or each of its pending tokens. It takes no memory. A
@@ -436,6 +452,16 @@ fn from_or(from: Option<Addr>, home: Option<Addr>) -> Option<Addr>
     match from {
         Some(own) => Some(own),
         None => home,
+    }
+}
+
+/// The address that a child names for itself.
+fn address_named(child: &Child<Option<IpCfg>>) -> Option<Addr>
+    ensures { result ≡ address_named child.now }
+{
+    match &child.value {
+        Some(cfg) => cfg.at,
+        None => None,
     }
 }
 

@@ -1,8 +1,8 @@
 -- One step of a walk over children.
-use Rattle.std.proofs.Common.{◌≡◌, ℕ, zero, suc, ◌+◌, Bool, true, false, ◌||◌, ◌-◌, ◌<◌, ◌≤◌, if◌then◌else◌, is_none, option_map, List, [], ◌∷◌, ◌++◌, filter, drop, Option, Some, None, slice_get, Result, Ok, Err, OnErr, refl, sym, ap, ◌∙◌, cond, arith}
+use Rattle.std.proofs.Common.{◌≡◌, ℕ, zero, suc, ◌+◌, Bool, true, false, ◌||◌, ◌-◌, ◌<◌, ◌≤◌, if◌then◌else◌, is_none, option_map, List, [], ◌∷◌, ◌++◌, filter, map, drop, Option, Some, None, slice_get, Result, Ok, Err, OnErr, refl, sym, ap, ◌∙◌, cond, arith}
 use Rattle.std.specs.List.{list_any}
 use Rattle.std.proofs.lemmas.List.{drop_more}
-use Rattle.std.proofs.lemmas.Option.{slice_get_within, get_or_from_slice_get}
+use Rattle.std.proofs.lemmas.Option.{slice_get-map, slice_get_within, get_or_from_slice_get}
 use Rattle.efi_book.specs.declared.children.Child.{Child}
 use Rattle.efi_book.specs.Books.{Tokens}
 use Rattle.drv_udp4.specs.declared.work.UdpCfg.{UdpCfg}
@@ -113,3 +113,7 @@ pub free_none : (cs : List (Child (Option UdpCfg))) (seed k n : ℕ) (whole : Op
 unfolding next_free
 free_none cs seed k zero whole h e = e
 free_none cs seed k (suc n) whole h e = absurd (omega (arith, h))
+
+-- what a function makes of the element at some place
+pub mapped-at : {X Y : Type 0} (f : X → Y) (xs : List X) (k : ℕ) (x : X) (y : Y) → slice_get xs k ≡ Some x → y ≡ f x → slice_get (map f xs) k ≡ Some y
+mapped-at f xs k x y h e = slice_get-map f xs k ∙ ap (option_map f) h ∙ ap Some (sym e)

@@ -11,12 +11,13 @@ ghost use Rattle.efi_book.specs.Families.{create_own_refusal, create_refusal, ha
 ghost use Rattle.efi_book.specs.Outboxes.{without_first};
 ghost use Rattle.efi_book.specs.Owners.{gained};
 ghost use Rattle.drv_udp4.specs.declared.work.UdpWork.TheVariants.{Transmit};
+ghost use Rattle.drv_udp4.specs.Networks.{addresses_of};
 ghost use Rattle.drv_udp4.specs.Ticks.{acted, at, next_of, ticked};
 ghost use Rattle.drv_udp4.specs.Udps.{chosen, choice, datagram_sent, done_of, heard, in_drive, in_routes, is_heard, is_stray, learned, new_state, post_refusal, posted_from, raised_of, source_of, source_refusal, told_refused, token_posted, udp_configure_refusal, udp_configured};
 
 use crate::hearing::{Arrival, any_hears, give_all};
 use crate::icmp::{quoted, tell_all};
-use crate::networks::address_of;
+use crate::networks::{address_named, address_of};
 use crate::ports::{PORTS, next_free, port_at, with_port};
 use crate::refusing::{cfg_refusal, work_refusal};
 use crate::sending::{Source, UdpCore, accept_plain, accept_with, make_text};
@@ -178,6 +179,22 @@ impl DrvUdp4 {
         ensures { result ≡ is_busy self.now.drive }
     {
         self.core.is_busy()
+    }
+
+    /// How many children callers have.
+    pub fn len(&self) -> usize
+        ensures { result ≡ length self.now.drive.family.live }
+    {
+        self.core.children.len()
+    }
+
+    /// The address that a caller's child names for itself, by order of making from 0: `None` where it uses the default
+    /// one, or isn't configured.
+    pub fn address_at(&self, i: usize) -> Option<Addr>
+        requires { i < length self.now.drive.family.live }
+        ensures { slice_get (addresses_of self.now.drive.family) i ≡ Some result }
+    {
+        address_named(self.core.children.at(i))
     }
 
     /// The child's pending token of this ticket ends as aborted, or each of its pending tokens. It takes no memory. A

@@ -1,10 +1,11 @@
 //! Which addresses a datagram is for (RFC 1122, section 3.2.1.3). Ports aren't here.
 ghost use Rattle.std.specs.Prelude.{◌≡◌};
 ghost use Rattle.drv_udp4.specs.Hearing.{is_peer};
-ghost use Rattle.drv_udp4.specs.Networks.{address_of, all_ones, is_at_address, is_destination, is_everywhere, is_to};
+ghost use Rattle.drv_udp4.specs.Networks.{address_named, address_of, all_ones, is_at_address, is_destination, is_everywhere, is_to};
 
 use crate::work::UdpCfg;
 use efi_base::{Addr, Ip4, Peer, is_broadcast, is_unicast};
+use efi_book::Child;
 
 /// The all-ones address of the network of an address.
 fn all_ones(a: Addr) -> u32
@@ -34,6 +35,16 @@ pub(crate) fn address_of(home: Option<Addr>, cfg: &UdpCfg) -> Option<Addr>
     match cfg.at {
         Some(a) => Some(a),
         None => home,
+    }
+}
+
+/// The address that a child names for itself.
+pub(crate) fn address_named(child: &Child<Option<UdpCfg>>) -> Option<Addr>
+    ensures { result ≡ address_named child.now }
+{
+    match &child.value {
+        Some(c) => c.at,
+        None => None,
     }
 }
 

@@ -81,6 +81,7 @@ impl DrvUdp4 {
         ensures answer { RefusesExactly (create_refusal self.old.drive.family) result }
         ensures ok { IfOk result (λ h. (h.serial ≡ self.old.drive.family.next) × (self.new ≡ in_drive self.old (made self.old.drive h.key))) }
         ensures err { IfErr result (λ _. self.new ≡ self.old) }
+        ensures moment { self.new.moment ≡ self.old.moment }
     {
         self.core.create()
     }
@@ -90,6 +91,7 @@ impl DrvUdp4 {
         ensures answer { RefusesExactly (create_own_refusal self.old.drive.family) result }
         ensures ok { IfOk result (λ h. (h.serial ≡ self.old.drive.family.next) × (self.new ≡ in_drive self.old (own_made self.old.drive h.key))) }
         ensures err { IfErr result (λ _. self.new ≡ self.old) }
+        ensures moment { self.new.moment ≡ self.old.moment }
     {
         self.core.create_own()
     }
@@ -101,6 +103,7 @@ impl DrvUdp4 {
         ensures ok { IfOk result (λ _. self.new ≡ in_drive self.old (destroyed self.old.drive h.key h.serial)) }
         ensures err { IfErr result (λ _. self.new ≡ self.old) }
         ensures keeps { Keeps self.old.drive.tokens self.new.drive.tokens }
+        ensures moment { self.new.moment ≡ self.old.moment }
     {
         self.core.destroy(h)
     }
@@ -114,6 +117,7 @@ impl DrvUdp4 {
         ensures ok { IfOk result (λ _. self.new ≡ udp_configured self.old h.key h.serial cfg) }
         ensures err { IfErr result (λ _. self.new ≡ self.old) }
         ensures keeps { Keeps self.old.drive.tokens self.new.drive.tokens }
+        ensures moment { self.new.moment ≡ self.old.moment }
     {
         match cfg {
             Some(c) => self.start(h, c),
@@ -127,6 +131,7 @@ impl DrvUdp4 {
         ensures ok { IfOk result (λ _. self.new ≡ udp_configured self.old h.key h.serial (Some c)) }
         ensures err { IfErr result (λ _. self.new ≡ self.old) }
         ensures keeps { Keeps self.old.drive.tokens self.new.drive.tokens }
+        ensures moment { self.new.moment ≡ self.old.moment }
     {
         match self.core.mode(h) {
             Ok(None) => {}
@@ -153,6 +158,7 @@ impl DrvUdp4 {
         ensures ok { OnOk result (self.new ≡ chosen self.old h.key h.serial c.now (Some k)) }
         ensures err { IfErr result (λ _. ⊥) }
         ensures keeps { Keeps self.old.drive.tokens self.new.drive.tokens }
+        ensures moment { self.new.moment ≡ self.old.moment }
     {
         match self
             .core
@@ -204,6 +210,7 @@ impl DrvUdp4 {
         ensures ok { IfOk result (λ _. self.new ≡ in_drive self.old (drive_cancelled self.old.drive h.serial t)) }
         ensures err { IfErr result (λ _. self.new ≡ self.old) }
         ensures keeps { Keeps self.old.drive.tokens self.new.drive.tokens }
+        ensures moment { self.new.moment ≡ self.old.moment }
     {
         self.core.cancel(h, t)
     }
@@ -214,6 +221,7 @@ impl DrvUdp4 {
         ensures ok { IfOk result (λ _. self.new ≡ in_drive self.old (drive_token_cancelled self.old.drive h.serial t)) }
         ensures err { IfErr result (λ _. self.new ≡ self.old) }
         ensures keeps { Keeps self.old.drive.tokens self.new.drive.tokens }
+        ensures moment { self.new.moment ≡ self.old.moment }
     {
         self.core.cancel_token(h, t)
     }
@@ -223,6 +231,7 @@ impl DrvUdp4 {
     pub fn abort_owner(&mut self, owner: Owner)
         ensures after { self.new ≡ in_drive self.old (in_tokens self.old.drive (owner_aborted self.old.drive.tokens owner)) }
         ensures keeps { Keeps self.old.drive.tokens self.new.drive.tokens }
+        ensures moment { self.new.moment ≡ self.old.moment }
     {
         self.core.abort_owner(owner);
     }
@@ -232,6 +241,7 @@ impl DrvUdp4 {
     pub fn learn(&mut self, home: Option<Addr>)
         ensures after { self.new ≡ learned self.old home }
         ensures keeps { Keeps self.old.drive.tokens self.new.drive.tokens }
+        ensures moment { self.new.moment ≡ self.old.moment }
     {
         if let Some(_) = self.home {
             end_homeless(&self.core.children, &mut self.core.tokens);
@@ -241,7 +251,8 @@ impl DrvUdp4 {
 
     /// `NoRoute` speaks of these routes from here on. It takes no memory.
     pub fn learn_routes(&mut self, routes: &Routes)
-        ensures { self.new ≡ in_routes self.old routes.now }
+        ensures after { self.new ≡ in_routes self.old routes.now }
+        ensures moment { self.new.moment ≡ self.old.moment }
     {
         self.routes = routes.copied();
     }
@@ -288,6 +299,7 @@ impl DrvUdp4 {
         ensures ok { IfOk result (λ t. (t.0 ≡ self.old.drive.tokens.next) × (self.new ≡ token_posted self.old h.key h.serial owner work)) }
         ensures err { IfErr result (λ r. (r.work ≡ work) × (self.new ≡ self.old)) }
         ensures keeps { (o : OwnerValue) → times o self.new.drive.tokens ≡ times o self.old.drive.tokens + gained o owner result }
+        ensures moment { self.new.moment ≡ self.old.moment }
     {
         if let Some(why) = self.refusal(h, owner, &work) {
             return Err(Refused { why, work });
@@ -312,6 +324,7 @@ impl DrvUdp4 {
         ensures ok { IfOk result (λ t. (t.0 ≡ self.old.drive.tokens.next) × (self.new ≡ posted_from self.old h.serial owner work (Some from.now))) }
         ensures err { IfErr result (λ r. (r.work ≡ work) × (self.new ≡ self.old)) }
         ensures keeps { (o : OwnerValue) → times o self.new.drive.tokens ≡ times o self.old.drive.tokens + gained o owner result }
+        ensures moment { self.new.moment ≡ self.old.moment }
     {
         match work {
             UdpWork::Transmit(tx) => match make_text(self.alloc, from, &tx) {
@@ -333,6 +346,7 @@ impl DrvUdp4 {
     pub fn sent(&mut self, t: Ticket, end: End)
         ensures after { self.new ≡ datagram_sent self.old t end }
         ensures keeps { Keeps self.old.drive.tokens self.new.drive.tokens }
+        ensures moment { self.new.moment ≡ self.old.moment }
     {
         if !is_transmit(self.core.tokens.work(t)) {
             return;
@@ -349,6 +363,7 @@ impl DrvUdp4 {
         ensures ok { OnOk result (self.new ≡ heard self.old p.now) }
         ensures free { OnErr result (is_heard self.old p.now ≡ true) }
         ensures keeps { Keeps self.old.drive.tokens self.new.drive.tokens }
+        ensures moment { self.new.moment ≡ self.old.moment }
     {
         let Ok(udp) = read_udp(p.src, p.dest, p.payload.as_slice()) else {
             return Ok(true);
@@ -370,10 +385,18 @@ impl DrvUdp4 {
         requires { p.now.proto ≡ 1 }
         ensures after { self.new ≡ told_refused self.old p.now }
         ensures keeps { Keeps self.old.drive.tokens self.new.drive.tokens }
+        ensures moment { self.new.moment ≡ self.old.moment }
     {
         if let Some(q) = quoted(p.payload.as_slice()) {
             tell_all(&self.core.children, &mut self.core.tokens, self.home, q);
         }
+    }
+
+    /// The last moment that came.
+    pub fn moment(&self) -> Tick
+        ensures { result ≡ self.now.moment }
+    {
+        self.moment
     }
 
     /// The first moment to come at which a receive token ends.
@@ -396,12 +419,21 @@ impl DrvUdp4 {
         self.moment = m;
     }
 
+    /// The moment comes, at which nothing is due. It takes no memory.
+    pub fn place(&mut self, m: Tick)
+        requires { m.0 ≤ 2 ^ 62 }
+        ensures { self.new ≡ at m.0 self.old }
+    {
+        self.moment = m;
+    }
+
     /// The moments up to this one come, and the receive tokens that end at them do, as `ReceiveTimeout`. It takes no
     /// memory.
     pub fn tick(&mut self, now: Tick)
         requires later { self.old.moment.0 ≤ now.0 }
         requires within { now.0 ≤ 2 ^ 62 }
         ensures after { self.new ≡ ticked (now.0 - self.old.moment.0) self.old }
+        ensures moment { self.new.moment ≡ now }
         ensures keeps { Keeps self.old.drive.tokens self.new.drive.tokens }
     {
         while let Some(m) = self.next() {
@@ -419,6 +451,7 @@ impl DrvUdp4 {
         ensures some { IfSome result (λ _. self.new ≡ in_drive self.old (in_tokens self.old.drive (without_done self.old.drive.tokens))) }
         ensures none { IfNone result (self.new ≡ self.old) }
         ensures keeps { (o : OwnerValue) → times o self.new.drive.tokens + given o result ≡ times o self.old.drive.tokens }
+        ensures moment { self.new.moment ≡ self.old.moment }
     {
         match self.core.take_done() {
             Some(d) => Some(plain_done(d)),
@@ -432,6 +465,7 @@ impl DrvUdp4 {
         ensures some { IfSome result (λ _. self.new ≡ in_drive self.old (in_tokens self.old.drive (without_up self.old.drive.tokens))) }
         ensures none { IfNone result (self.new ≡ self.old) }
         ensures keeps { (o : OwnerValue) → times o self.new.drive.tokens + given_up o result ≡ times o self.old.drive.tokens }
+        ensures moment { self.new.moment ≡ self.old.moment }
     {
         match self.core.take_up() {
             Some(d) => Some(plain_raised(d)),
@@ -444,6 +478,7 @@ impl DrvUdp4 {
         ensures first { result ≡ slice_get self.old.drive.outbox.messages 0 }
         ensures some { IfSome result (λ _. self.new ≡ in_drive self.old (in_outbox self.old.drive (without_first self.old.drive.outbox))) }
         ensures none { IfNone result (self.new ≡ self.old) }
+        ensures moment { self.new.moment ≡ self.old.moment }
     {
         self.core.take_down()
     }

@@ -1,5 +1,5 @@
 -- The driver as contracts see it, and what its calls answer and leave.
-use Rattle.std.specs.Prelude.{ℕ, Bool, not, is_none, List, [], ◌∷◌, filter_map, Option, Some, None, option_map}
+use Rattle.std.specs.Prelude.{ℕ, Bool, not, is_none, List, [], ◌∷◌, filter_map, map, Option, Some, None, option_map}
 use Rattle.efi_base.specs.Refusals.{first_of, refuse_if}
 use Rattle.efi_base.specs.declared.plain.Ip4.{Ip4}
 use Rattle.efi_base.specs.declared.plain.Mac.{Mac}
@@ -23,25 +23,35 @@ use Rattle.wire_link.specs.declared.resolution.Arp.{Arp}
 use Rattle.drv_arp.specs.declared.asks.ArpCfg.{ArpCfg}
 use Rattle.drv_arp.specs.declared.asks.ArpWork.{ArpWork}
 use Rattle.drv_arp.specs.declared.asks.Ask.{Ask}
+use Rattle.drv_arp.specs.declared.stations.Station.{Station}
 use Rattle.drv_arp.specs.declared.told.Told.{Told}
 use Rattle.drv_arp.specs.Asks.{cfg_refusal, ask_of, request_of, told}
+use Rattle.drv_arp.specs.Stations.{learned}
 
--- the children, tokens and messages; the station's Ethernet address; the moment; and the cache, in which entries may still be
--- that have ended
+-- the children, tokens and messages; the station's Ethernet address and its addresses; the moment; and the cache, in which
+-- entries may still be that have ended
 pub record ArpState : Type 0 where
   pub drive : Drive ArpCfg Ask Arp
   pub mac : Mac
+  pub stations : List Station
   pub moment : Tick
   pub entries : List Entry
 
 abbrev pub started : ℕ → Mac → ArpState
-started own mac = record { drive = start own; mac = mac; moment = record { 0 = 0 }; entries = [] }
+started own mac = record { drive = start own; mac = mac; stations = []; moment = record { 0 = 0 }; entries = [] }
 
 abbrev pub in_drive : ArpState → Drive ArpCfg Ask Arp → ArpState
-in_drive s d = record { drive = d; mac = s.mac; moment = s.moment; entries = s.entries }
+in_drive s d = record { drive = d; mac = s.mac; stations = s.stations; moment = s.moment; entries = s.entries }
 
 abbrev pub in_entries : ArpState → List Entry → ArpState
-in_entries s es = record { drive = s.drive; mac = s.mac; moment = s.moment; entries = es }
+in_entries s es = record { drive = s.drive; mac = s.mac; stations = s.stations; moment = s.moment; entries = es }
+
+abbrev pub in_stations : ArpState → List Station → ArpState
+in_stations s ss = record { drive = s.drive; mac = s.mac; stations = ss; moment = s.moment; entries = s.entries }
+
+-- these are the station's addresses from now on
+abbrev pub stations_learned : ArpState → List Ip4 → ArpState
+stations_learned s a = in_stations s (map (learned s.stations s.drive.family.next) a)
 
 -- the entries that count: those that haven't ended
 abbrev pub known : ArpState → List Entry

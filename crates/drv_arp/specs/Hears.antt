@@ -8,6 +8,8 @@ use Rattle.arp_cache.specs.Caches.{after_heard, reply_of}
 use Rattle.wire_link.specs.declared.resolution.Arp.{Arp}
 use Rattle.drv_arp.specs.declared.asks.ArpCfg.{ArpCfg}
 use Rattle.drv_arp.specs.declared.ours.Claim.{Claim}
+use Rattle.drv_arp.specs.declared.stations.Station.{Station}
+use Rattle.drv_arp.specs.Stations.{station_at}
 use Rattle.drv_arp.specs.Arps.{ArpState, in_drive, in_entries, known, answered}
 
 -- the child as one that has the address, where it is configured with it
@@ -32,12 +34,16 @@ older None b = b
 older (Some a) None = Some a
 older (Some a) (Some b) = if nat_lt b.serial a.serial then Some b else Some a
 
--- the oldest child that has the address, of callers' and of the stack's own
-abbrev pub oldest_claim : Family (Option ArpCfg) → ℕ → Option Claim
-oldest_claim f ip = older (first_claim ip f.live) (first_claim ip f.own)
+-- the station as one that has the address
+abbrev pub station_claim : List Station → ℕ → Option Claim
+station_claim ss ip = option_map (λ (s : Station). record { serial = s.since; entry = 0 }) (station_at ss ip)
 
--- the sender's entry is refreshed, and its pair is added where the target is the address of a child, with the life that the
--- oldest such child gives
+-- the oldest that has the address, of the station, callers' children and the stack's own
+abbrev pub oldest_claim : List Station → Family (Option ArpCfg) → ℕ → Option Claim
+oldest_claim ss f ip = older (station_claim ss ip) (older (first_claim ip f.live) (first_claim ip f.own))
+
+-- the sender's entry is refreshed, and its pair is added where the target is an address of the station or of a child, with
+-- the life that the oldest of these gives
 abbrev pub noted : ArpState → Arp → Option Claim → ArpState
 noted s a o = in_entries s (after_heard (known s) a s.moment (option_map (λ (c : Claim). c.entry) o))
 
@@ -50,4 +56,4 @@ abbrev pub heard_by : ArpState → Arp → Option Claim → ArpState
 heard_by s a o = answered (with_reply (noted s a o) (reply_of a s.mac (is_some o)))
 
 abbrev pub heard : ArpState → Arp → ArpState
-heard s a = heard_by s a (oldest_claim s.drive.family a.tpa.0)
+heard s a = heard_by s a (oldest_claim s.stations s.drive.family a.tpa.0)

@@ -33,13 +33,14 @@ abbrev pub acted : ℕ → ArpState → ArpState
 acted m s = record {
   drive = all_done m s.mac s.drive (filter_map (due_of m) s.drive.tokens.pending);
   mac = s.mac;
+  stations = s.stations;
   moment = record { 0 = m };
   entries = s.entries;
 }
 
 -- the same at another moment
 abbrev pub at : ℕ → ArpState → ArpState
-at m s = record { drive = s.drive; mac = s.mac; moment = record { 0 = m }; entries = s.entries }
+at m s = record { drive = s.drive; mac = s.mac; stations = s.stations; moment = record { 0 = m }; entries = s.entries }
 
 abbrev pub moment_of : ArpState → ℕ
 moment_of s = s.moment.0

@@ -7,7 +7,7 @@ use Rattle.efi_timer.specs.Ticking.{IsTimed}
 use Rattle.drv_arp.specs.declared.asks.Ask.{Ask}
 use Rattle.drv_arp.specs.declared.told.Told.{Told}
 use Rattle.drv_arp.specs.Asks.{is_in, is_due, table, least, later_than, next_in, next_of_ask}
-use Rattle.drv_arp.specs.Arps.{ArpState}
+use Rattle.drv_arp.specs.Arps.{ArpState, in_drive}
 use Rattle.drv_arp.specs.Ticks.{due_of, all_done, acted, at, moment_of, next_of_all, next_of}
 
 -- what comes before the lesser of two moments comes before both
@@ -86,9 +86,7 @@ IsAny s = Unit {0}
 -- before the next moment nothing is due
 pub quiet : (s : ArpState) (m : ℕ) → moment_of s < m → IfSome (next_of s) (λ t. m < t) → acted m s ≡ at m s
 quiet s m up h =
-    ap
-    (λ (ts : List Told). record { drive = all_done m s.mac s.drive ts; mac = s.mac; moment = record { 0 = m }; entries = s.entries })
-    (none_due s.moment.0 m s.drive.tokens.pending up h)
+    ap (λ (ts : List Told). in_drive (at m s) (all_done m s.mac s.drive ts)) (none_due s.moment.0 m s.drive.tokens.pending up h)
 
 pub arp_is_timed : IsTimed moment_of acted at next_of IsAny
 arp_is_timed = record {

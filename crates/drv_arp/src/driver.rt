@@ -1,4 +1,4 @@
-//! The driver: its children's calls, heard packets and ticks. Which child has an address, and the walks over pending
+//! The driver: its children's calls, heard packets and ticks. Who has an address, and the walks over pending
 //! requests, stand elsewhere.
 ghost use Rattle.std.specs.Prelude.{◌≡◌, ℕ, ◌+◌, ◌-◌, ◌≤◌, ◌^◌, Some, length, slice_get, option_map, vec_capacity, vec_len, IfOk, IfErr, IfSome, IfNone, OnOk, OnErr};
 ghost use Rattle.efi_base.specs.Refusals.{AnswersBy, RefusesBy, RefusesExactly};
@@ -8,30 +8,33 @@ ghost use Rattle.efi_book.specs.Cores.{cfg_of, configured, destroyed, drive_canc
 ghost use Rattle.efi_book.specs.Families.{create_own_refusal, create_refusal, handle_refusal, is_callers as callers};
 ghost use Rattle.efi_book.specs.Outboxes.{without_first};
 ghost use Rattle.efi_book.specs.Owners.{gained};
-ghost use Rattle.drv_arp.specs.Arps.{added, answered, arp_add_refusal, arp_configure_refusal, arp_delete_refusal, arp_flush_refusal, arp_posted, deleted, done_of, find_refusal, flushed, in_drive, in_entries, known, known_mac, mode_refusal, raised_of, started};
+ghost use Rattle.drv_arp.specs.Arps.{added, answered, arp_add_refusal, arp_configure_refusal, arp_delete_refusal, arp_flush_refusal, arp_posted, deleted, done_of, find_refusal, flushed, in_drive, in_entries, known, known_mac, mode_refusal, raised_of, started, stations_learned};
 ghost use Rattle.drv_arp.specs.Hears.{heard, noted, with_reply};
 ghost use Rattle.drv_arp.specs.Ticks.{acted, at, next_of, ticked};
 
 use crate::accepts::{accept_known, accept_unknown};
 use crate::asks::{ArpCfg, ArpK, ArpWork, Ask};
 use crate::ours::claim_on;
+use crate::stations::{STATIONS, Station, learned};
 use crate::told::{
     Told, do_all, dues, next_after, plain_done, plain_raised, put_answers, room_for, settle,
 };
 use arp_cache::{Cache, Entry, reply_to};
+use arrayvec::ArrayVec;
 use efi_base::{ChildId, Ip4, Mac, NoMemory, Owner, Refuse, Refused, Tick, Ticket, TokenId};
 use efi_book::{Core, Done, Handle, OWN_CHILDREN, Raised};
 use std::alloc::Global;
 use std::marker::Model;
 use wire_link::Arp;
 
-/// The driver of the station with an Ethernet address.
+/// The driver of the station with an Ethernet address, and with addresses of its own.
 #[derive(Drop)]
 pub struct DrvArp {
     alloc: Global,
     core: Core<ArpK, ArpCfg, Ask, Arp>,
     cache: Cache,
     mac: Mac,
+    stations: ArrayVec<Station, STATIONS>,
     moment: Tick,
 }
 
@@ -42,7 +45,7 @@ impl Model for DrvArp {
 
     ghost Value = { ArpState };
 
-    ghost view = { λ d. record { drive = drive d.core; mac = d.mac; moment = d.moment; entries = d.cache } };
+    ghost view = { λ d. record { drive = drive d.core; mac = d.mac; stations = d.stations.items; moment = d.moment; entries = d.cache } };
 
     ghost invariant = { λ d. d.moment.0 ≤ 2 ^ 62 };
 }
@@ -59,6 +62,7 @@ impl DrvArp {
             core,
             cache,
             mac,
+            stations: ArrayVec::new(),
             moment: Tick(0),
         })
     }
@@ -68,6 +72,7 @@ impl DrvArp {
         ensures answer { RefusesExactly (create_refusal self.old.drive.family) result }
         ensures ok { IfOk result (λ h. (h.serial ≡ self.old.drive.family.next) × (self.new ≡ in_drive self.old (made self.old.drive h.key))) }
         ensures err { IfErr result (λ _. self.new ≡ self.old) }
+        ensures moment { self.new.moment ≡ self.old.moment }
     {
         self.core.create()
     }
@@ -77,6 +82,7 @@ impl DrvArp {
         ensures answer { RefusesExactly (create_own_refusal self.old.drive.family) result }
         ensures ok { IfOk result (λ h. (h.serial ≡ self.old.drive.family.next) × (self.new ≡ in_drive self.old (own_made self.old.drive h.key))) }
         ensures err { IfErr result (λ _. self.new ≡ self.old) }
+        ensures moment { self.new.moment ≡ self.old.moment }
     {
         self.core.create_own()
     }
@@ -87,6 +93,7 @@ impl DrvArp {
         ensures ok { IfOk result (λ _. self.new ≡ in_drive self.old (destroyed self.old.drive h.key h.serial)) }
         ensures err { IfErr result (λ _. self.new ≡ self.old) }
         ensures keeps { Keeps self.old.drive.tokens self.new.drive.tokens }
+        ensures moment { self.new.moment ≡ self.old.moment }
     {
         self.core.destroy(h)
     }
@@ -120,6 +127,7 @@ impl DrvArp {
         ensures ok { IfOk result (λ _. self.new ≡ in_drive self.old (configured self.old.drive h.key h.serial c)) }
         ensures err { IfErr result (λ _. self.new ≡ self.old) }
         ensures keeps { Keeps self.old.drive.tokens self.new.drive.tokens }
+        ensures moment { self.new.moment ≡ self.old.moment }
     {
         match c {
             Some(cfg) => {
@@ -143,6 +151,7 @@ impl DrvArp {
         ensures ok { IfOk result (λ _. self.new ≡ in_drive self.old (drive_cancelled self.old.drive h.serial t)) }
         ensures err { IfErr result (λ _. self.new ≡ self.old) }
         ensures keeps { Keeps self.old.drive.tokens self.new.drive.tokens }
+        ensures moment { self.new.moment ≡ self.old.moment }
     {
         self.core.cancel(h, t)
     }
@@ -153,6 +162,7 @@ impl DrvArp {
         ensures ok { IfOk result (λ _. self.new ≡ in_drive self.old (drive_token_cancelled self.old.drive h.serial t)) }
         ensures err { IfErr result (λ _. self.new ≡ self.old) }
         ensures keeps { Keeps self.old.drive.tokens self.new.drive.tokens }
+        ensures moment { self.new.moment ≡ self.old.moment }
     {
         self.core.cancel_token(h, t)
     }
@@ -161,6 +171,7 @@ impl DrvArp {
     pub fn abort_owner(&mut self, owner: Owner)
         ensures after { self.new ≡ in_drive self.old (in_tokens self.old.drive (owner_aborted self.old.drive.tokens owner)) }
         ensures keeps { Keeps self.old.drive.tokens self.new.drive.tokens }
+        ensures moment { self.new.moment ≡ self.old.moment }
     {
         self.core.abort_owner(owner);
     }
@@ -177,6 +188,7 @@ impl DrvArp {
         ensures ok { IfOk result (λ t. (t.0 ≡ self.old.drive.tokens.next) × (self.new ≡ arp_posted self.old h.key h.serial owner work)) }
         ensures err { IfErr result (λ r. (r.work ≡ work) × (self.new ≡ self.old)) }
         ensures keeps { (o : OwnerValue) → times o self.new.drive.tokens ≡ times o self.old.drive.tokens + gained o owner result }
+        ensures moment { self.new.moment ≡ self.old.moment }
     {
         let cfg = match self.core.mode(h) {
             Ok(Some(cfg)) => cfg,
@@ -244,6 +256,7 @@ impl DrvArp {
         ensures answer { RefusesExactly (arp_delete_refusal self.old h.key h.serial ip.0) result }
         ensures ok { OnOk result (self.new ≡ deleted self.old ip.0) }
         ensures err { OnErr result (self.new ≡ self.old) }
+        ensures moment { self.new.moment ≡ self.old.moment }
     {
         if let Err(why) = self.mode_of(h) {
             return Err(why);
@@ -260,6 +273,7 @@ impl DrvArp {
         ensures answer { RefusesExactly (arp_flush_refusal self.old h.key h.serial) result }
         ensures ok { OnOk result (self.new ≡ flushed self.old) }
         ensures err { OnErr result (self.new ≡ self.old) }
+        ensures moment { self.new.moment ≡ self.old.moment }
     {
         if let Err(why) = self.mode_of(h) {
             return Err(why);
@@ -286,6 +300,7 @@ impl DrvArp {
         ensures ok { OnOk result (self.new ≡ added self.old h.key h.serial ip mac fixed) }
         ensures err { OnErr result (self.new ≡ self.old) }
         ensures keeps { Keeps self.old.drive.tokens self.new.drive.tokens }
+        ensures moment { self.new.moment ≡ self.old.moment }
     {
         let c = match self.mode_of(h) {
             Ok(c) => c,
@@ -330,9 +345,10 @@ impl DrvArp {
     pub fn on_frame(&mut self, a: &Arp) -> Result<(), NoMemory>
         ensures ok { OnOk result (self.new ≡ heard self.old a.now) }
         ensures keeps { Keeps self.old.drive.tokens self.new.drive.tokens }
+        ensures moment { self.new.moment ≡ self.old.moment }
     {
         let answers = room_for(self.alloc, self.core.tokens.pending())?;
-        let claim = claim_on(&self.core.children, a.tpa);
+        let claim = claim_on(self.stations.as_slice(), &self.core.children, a.tpa);
         let reply = reply_to(a, self.mac, claim.is_some());
         self.cache.expire(self.moment);
         self.cache.hear(a, self.moment, claim.map(|c| c.entry));
@@ -341,6 +357,17 @@ impl DrvArp {
         }
         self.answer(answers);
         Ok(())
+    }
+
+    /// The station's addresses from now on. One that was before keeps its age; another is younger than the children that there
+    /// are, and older than those to come. It takes no memory.
+    pub fn learn_stations(&mut self, a: &[Ip4])
+        requires { length a.now ≤ 257 }
+        ensures after { self.new ≡ stations_learned self.old a.now }
+        ensures moment { self.new.moment ≡ self.old.moment }
+    {
+        let next = self.core.children.next_serial();
+        self.stations = learned(self.stations.as_slice(), next, a);
     }
 
     /// The last moment that came.
@@ -365,9 +392,10 @@ impl DrvArp {
         requires { m.0 ≤ 2 ^ 62 }
         ensures ok { OnOk result (self.new ≡ acted m.0 self.old) }
         ensures keeps { Keeps self.old.drive.tokens self.new.drive.tokens }
+        ensures moment { self.new.moment ≡ m }
     {
-        let found = dues(self.alloc, m, self.core.tokens.pending())?;
         self.moment = m;
+        let found = dues(self.alloc, m, self.core.tokens.pending())?;
         do_all(&mut self.core, self.mac, m, &found)
     }
 
@@ -385,6 +413,7 @@ impl DrvArp {
         requires within { now.0 ≤ 2 ^ 62 }
         ensures ok { OnOk result (self.new ≡ ticked (now.0 - self.old.moment.0) self.old) }
         ensures keeps { Keeps self.old.drive.tokens self.new.drive.tokens }
+        ensures moment { OnOk result (self.new.moment ≡ now) }
     {
         while let Some(m) = self.next() {
             if m.0 > now.0 {
@@ -402,6 +431,7 @@ impl DrvArp {
         ensures some { IfSome result (λ _. self.new ≡ in_drive self.old (in_tokens self.old.drive (without_done self.old.drive.tokens))) }
         ensures none { IfNone result (self.new ≡ self.old) }
         ensures keeps { (o : OwnerValue) → times o self.new.drive.tokens + given o result ≡ times o self.old.drive.tokens }
+        ensures moment { self.new.moment ≡ self.old.moment }
     {
         match self.core.take_done() {
             Some(d) => Some(plain_done(d)),
@@ -415,6 +445,7 @@ impl DrvArp {
         ensures some { IfSome result (λ _. self.new ≡ in_drive self.old (in_tokens self.old.drive (without_up self.old.drive.tokens))) }
         ensures none { IfNone result (self.new ≡ self.old) }
         ensures keeps { (o : OwnerValue) → times o self.new.drive.tokens + given_up o result ≡ times o self.old.drive.tokens }
+        ensures moment { self.new.moment ≡ self.old.moment }
     {
         match self.core.take_up() {
             Some(d) => Some(plain_raised(d)),
@@ -428,6 +459,7 @@ impl DrvArp {
         ensures first { result ≡ slice_get self.old.drive.outbox.messages 0 }
         ensures some { IfSome result (λ _. self.new ≡ in_drive self.old (in_outbox self.old.drive (without_first self.old.drive.outbox))) }
         ensures none { IfNone result (self.new ≡ self.old) }
+        ensures moment { self.new.moment ≡ self.old.moment }
     {
         self.core.take_down()
     }

@@ -10,11 +10,14 @@ mod asks;
 mod driver;
 // what holds of the moments of a request
 mod laws;
-// which child has an address
+// who has an address
 mod ours;
+// the station's addresses
+mod stations;
 // requests that are due, and requests that are answered
 mod told;
 
 pub use asks::{ArpCfg, ArpK, ArpWork, Ask};
 pub use driver::DrvArp;
 pub use laws::a_request_goes_each_gap;
+pub use stations::Station;

@@ -1,13 +1,14 @@
-//! Which child has an address. What such a child is told isn't here.
+//! Who has an address: the station, or which child. What such a child is told isn't here.
 ghost use Rattle.std.specs.Prelude.{◌≡◌, ◌≤◌, length};
 ghost use Rattle.efi_book.specs.declared.children.Child.{Child as Row};
-ghost use Rattle.drv_arp.specs.Hears.{claim, first_claim, older, oldest_claim};
+ghost use Rattle.drv_arp.specs.Hears.{claim, first_claim, older, oldest_claim, station_claim};
 
 use crate::asks::{ArpCfg, ArpK};
+use crate::stations::{Station, station_at};
 use efi_base::Ip4;
 use efi_book::{Child, Children};
 
-/// A child that has an address: its serial, and for how many ticks it lets an entry count.
+/// One that has an address, a child or the station: its serial, and for how many ticks it lets an entry count.
 #[derive(Clone, Copy)]
 pub(crate) struct Claim {
     pub serial: u64,
@@ -56,6 +57,19 @@ fn own_claim(children: &Children<ArpK, Option<ArpCfg>>, ip: Ip4) -> Option<Claim
     None
 }
 
+/// The station, where the address is one of its own: its entries don't end.
+fn station_claim(stations: &[Station], ip: Ip4) -> Option<Claim>
+    ensures { result ≡ station_claim stations.now ip.0 }
+{
+    match station_at(stations, ip) {
+        Some(s) => Some(Claim {
+            serial: s.since,
+            entry: 0,
+        }),
+        None => None,
+    }
+}
+
 /// The older of two.
 fn older_of(a: Option<Claim>, b: Option<Claim>) -> Option<Claim>
     ensures { result ≡ older a b }
@@ -74,9 +88,14 @@ fn older_of(a: Option<Claim>, b: Option<Claim>) -> Option<Claim>
     }
 }
 
-/// The oldest child that has the address.
-pub(crate) fn claim_on(children: &Children<ArpK, Option<ArpCfg>>, ip: Ip4) -> Option<Claim>
-    ensures { result ≡ oldest_claim children.now ip.0 }
+/// The oldest that has the address.
+pub(crate) fn claim_on(
+    stations: &[Station],
+    children: &Children<ArpK, Option<ArpCfg>>,
+    ip: Ip4,
+) -> Option<Claim>
+    ensures { result ≡ oldest_claim stations.now children.now ip.0 }
 {
-    older_of(callers_claim(children, ip), own_claim(children, ip))
+    let child = older_of(callers_claim(children, ip), own_claim(children, ip));
+    older_of(station_claim(stations, ip), child)
 }

@@ -216,6 +216,13 @@ impl<K: Copy + Drop, C: Drop> Children<K, C> {
         }
     }
 
+    /// The serial of the child that is made next.
+    pub fn next_serial(&self) -> u64
+        ensures { result ≡ self.now.next }
+    {
+        self.next
+    }
+
     /// How many children callers have.
     pub fn len(&self) -> usize
         ensures { result ≡ length self.now.live }
